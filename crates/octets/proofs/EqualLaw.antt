@@ -1,0 +1,78 @@
+-- Laws of the comparison of two lists, and of bits that differ. Assumes nothing.
+use mathlib.Core.Path.{_≡_, refl, ap, ap₂, sym, subst, _∙_}
+use mathlib.Core.Bool.{Bool, true, false, _&&_, false≢true}
+use mathlib.Core.List.{List, [], _∷_}
+use Prim.Native.Nat.{ℕ, zero, suc, _+_, _*_, _≤_, _<_}
+use native.Mathlib.Omega.{arith}
+use borrow.Author.Count.{below-more}
+use borrow.Author.Tests.{eqb-true, eqb-false, eq-eqb}
+use lib.Dec.{eqb}
+use lib.Bits.{bitOr, bitXor, bitAnd, or-add-and, xor-add-and, and-le-l, and-le-r, xor-self, or-zero-l}
+use lib.ListN.{length, getD}
+use lib.Seq.{ext-getD}
+use Rattle.octets.specs.Part.{equal}
+
+both : (a b : Bool) → (a && b) ≡ true → (a ≡ true) × (b ≡ true)
+both true b e = (refl, e)
+both false b e = absurd (false≢true e)
+
+pub equal-refl : (l : List ℕ) → equal l l ≡ true
+unfolding equal
+equal-refl [] = refl
+equal-refl (x ∷ l) = ap₂ _&&_ (eq-eqb x x refl) (equal-refl l)
+
+pub equal-true : (a b : List ℕ) → equal a b ≡ true → a ≡ b
+unfolding equal
+equal-true [] [] e = refl
+equal-true [] (y ∷ b) e = absurd (false≢true e)
+equal-true (x ∷ a) [] e = absurd (false≢true e)
+equal-true (x ∷ a) (y ∷ b) e =
+    ap₂ (λ (h : ℕ) (t : List ℕ). h ∷ t) (eqb-true x y (both (eqb x y) (equal a b) e .0)) (equal-true a b (both (eqb x y) (equal a b) e .1))
+
+pub equal-yes : (a b : List ℕ) → a ≡ b → equal a b ≡ true
+equal-yes a b e = subst (λ (x : List ℕ). equal a x ≡ true) e (equal-refl a)
+
+pub equal-no : (a b : List ℕ) → (a ≡ b → ⊥) → equal a b ≡ false
+equal-no a b n = go (equal a b) refl
+  where
+    go : (t : Bool) → equal a b ≡ t → t ≡ false
+    go true e = absurd (n (equal-true a b e))
+    go false e = refl
+
+-- two numbers differ in no bit just where they are equal
+pub xor-none : (a b : ℕ) → bitXor a b ≡ 0 → a ≡ b
+xor-none a b e = omega (arith, xor-add-and a b, and-le-l a b, and-le-r a b)
+
+pub or-none : (a b : ℕ) → bitOr a b ≡ 0 → (a ≡ 0) × (b ≡ 0)
+or-none a b e = (omega (arith, or-add-and a b, and-le-l a b, and-le-r a b), omega (arith, or-add-and a b, and-le-l a b, and-le-r a b))
+
+-- d is 0 just where the first i bytes of a and b are the same
+pub record Compared (a b : List ℕ) (i d : ℕ) : Type 0 where
+  pub same : d ≡ 0 → (k : ℕ) → k < i → getD a k 0 ≡ getD b k 0
+  pub none : ((k : ℕ) → k < i → getD a k 0 ≡ getD b k 0) → d ≡ 0
+
+pub compared-start : (a b : List ℕ) → Compared a b 0 0
+compared-start a b = record { same = λ e k h. absurd (omega arith); none = λ all. refl }
+
+pub compared-step : (a b : List ℕ) (i d : ℕ) → Compared a b i d → Compared a b (i + 1) (bitOr d (bitXor (getD a i 0) (getD b i 0)))
+compared-step a b i d c =
+    record {
+      same =
+          λ e.
+          let z = or-none d (bitXor (getD a i 0) (getD b i 0)) e in
+          below-more (λ (k : ℕ). getD a k 0 ≡ getD b k 0) i (c .same (z .0)) (xor-none (getD a i 0) (getD b i 0) (z .1));
+      none =
+          λ all.
+          let d0 : d ≡ 0 = c .none (λ k h. all k (omega arith)) in
+          let here : getD a i 0 ≡ getD b i 0 = all i (omega arith) in
+          ap₂ bitOr d0 (ap (λ (x : ℕ). bitXor x (getD b i 0)) here ∙ xor-self (getD b i 0)) ∙ or-zero-l 0;
+    }
+
+-- at the end the test of d is the comparison
+pub compared-end : (a b : List ℕ) (i d : ℕ) → Compared a b i d → length a ≡ length b → length a ≤ i → eqb d 0 ≡ equal a b
+compared-end a b i d c l h = go (eqb d 0) refl
+  where
+    go : (t : Bool) → eqb d 0 ≡ t → t ≡ equal a b
+    go true e = sym (equal-yes a b (ext-getD 0 a b l (λ k u. c .same (eqb-true d 0 e) k (omega arith))))
+    go false e =
+        sym (equal-no a b (λ q. eqb-false d 0 e (c .none (λ k u. ap (λ (x : List ℕ). getD x k 0) q))))

@@ -1,0 +1,23 @@
+-- `octets::load_u32` meets its contract: the sum that it makes is the number's first digit and the rest, four times. Assumes nothing.
+use borrow.Author.Needs.{needs}
+use native.Mathlib.Omega.{arith}
+use Rattle.octets.proofs.NumberLaw.{number-of-four}
+use Rattle.octets.proofs.load_u32.Statement.{statement}
+use Rattle.octets.proofs.load_u32.Tie as tie
+
+returns : tie.Need-returns
+returns c =
+    let start = c .before .before .before .before .before .before .before .before .before in
+    number-of-four _ _ _ _ _ _ (start .pre)
+    (c .before .before .before .before .before .before .wide .ensures .0)
+    (c .before .before .before .before .wide2 .ensures .0)
+    (c .before .before .wide3 .ensures .0)
+    (c .wide4 .ensures .0)
+
+pub load-u32-spec : {M : Type 1} → statement M
+load-u32-spec =
+    tie.close
+    (tie.spec (λ c. search needs) (λ c κs. search needs) (λ c. search needs) (λ c. search needs) (λ c κs. search needs)
+    (λ c. search needs) (λ c. search needs) (λ c. search needs) (λ c. search needs) (λ c κs. search needs) (λ c. search needs)
+    (λ c. search needs) (λ c. search needs) (λ c. search needs) (λ c κs. search needs) (λ c. search needs) (λ c. search needs)
+    returns)
