@@ -1,0 +1,4 @@
+-- The laws that proofs here and in the crates above cite.
+pub mod WordLaw
+pub mod RoundLaw
+pub mod CompressLaw

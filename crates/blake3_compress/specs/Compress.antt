@@ -1,0 +1,157 @@
+-- BLAKE3's compression function, after section 2.2 of the paper "BLAKE3: one function, fast everywhere", over lists of natural
+-- numbers: a word is a number below 2 ^ 32, and the state is sixteen words, as four rows of four. Assumes nothing: these are definitions.
+use Prim.Native.Nat.{ℕ, zero, suc, _+_, _-_, _*_, _/_, _%_, _^_}
+use mathlib.Core.List.{List, [], _∷_, map}
+use lib.ListN.{getD}
+use lib.Bits.{bitXor}
+
+-- ---- words
+
+-- "sums wrap at 32 bits"
+abbrev pub add32 : ℕ → ℕ → ℕ
+add32 a b = (a + b) % 2 ^ 32
+
+-- the word x, its bits rotated right by n places
+unfoldable pub rotr : ℕ → ℕ → ℕ
+rotr x n = x / 2 ^ n + (x % 2 ^ n) * 2 ^ (32 - n)
+
+-- word i of a list
+abbrev pub word : List ℕ → ℕ → ℕ
+word m i = getD m i 0
+
+-- the word in row i and column j of a state
+abbrev pub cell : List (List ℕ) → ℕ → ℕ → ℕ
+cell s i j = word (getD s i []) j
+
+-- ---- constants
+
+-- table 1: the initial value, which the plain hash has for its key
+abbrev pub IV : List ℕ
+IV =
+    0x6A09E667 ∷ 0xBB67AE85 ∷ 0x3C6EF372 ∷ 0xA54FF53A ∷ 0x510E527F ∷ 0x9B05688C ∷ 0x1F83D9AB ∷ 0x5BE0CD19 ∷ []
+
+-- table 2: which message word stands where in the next round
+abbrev pub permutation : List ℕ
+permutation =
+    2 ∷ 6 ∷ 3 ∷ 10 ∷ 7 ∷ 0 ∷ 4 ∷ 13 ∷ 1 ∷ 11 ∷ 12 ∷ 5 ∷ 9 ∷ 14 ∷ 15 ∷ 8 ∷ []
+
+-- ---- a round
+
+-- the mixing function: four words of the state and two of the message give four words; rotations right are 16, 12, 8, 7
+unfoldable pub G : ℕ → ℕ → ℕ → ℕ → ℕ → ℕ → List ℕ
+G a b c d x y =
+    let a1 = add32 (add32 a b) x in
+    let d1 = rotr (bitXor d a1) 16 in
+    let c1 = add32 c d1 in
+    let b1 = rotr (bitXor b c1) 12 in
+    let a2 = add32 (add32 a1 b1) y in
+    let d2 = rotr (bitXor d1 a2) 8 in
+    let c2 = add32 c1 d2 in
+    let b2 = rotr (bitXor b1 c2) 7 in
+    a2 ∷ b2 ∷ c2 ∷ d2 ∷ []
+
+-- the state, as rows, whose four columns are q
+unfoldable pub ofColumns : List (List ℕ) → List (List ℕ)
+ofColumns q =
+    (cell q 0 0 ∷ cell q 1 0 ∷ cell q 2 0 ∷ cell q 3 0 ∷ [])
+    ∷ (cell q 0 1 ∷ cell q 1 1 ∷ cell q 2 1 ∷ cell q 3 1 ∷ [])
+    ∷ (cell q 0 2 ∷ cell q 1 2 ∷ cell q 2 2 ∷ cell q 3 2 ∷ [])
+    ∷ (cell q 0 3 ∷ cell q 1 3 ∷ cell q 2 3 ∷ cell q 3 3 ∷ [])
+    ∷ []
+
+-- the state, as rows, whose four diagonals are q: diagonal j starts in column j of the first row
+unfoldable pub ofDiagonals : List (List ℕ) → List (List ℕ)
+ofDiagonals q =
+    (cell q 0 0 ∷ cell q 1 0 ∷ cell q 2 0 ∷ cell q 3 0 ∷ [])
+    ∷ (cell q 3 1 ∷ cell q 0 1 ∷ cell q 1 1 ∷ cell q 2 1 ∷ [])
+    ∷ (cell q 2 2 ∷ cell q 3 2 ∷ cell q 0 2 ∷ cell q 1 2 ∷ [])
+    ∷ (cell q 1 3 ∷ cell q 2 3 ∷ cell q 3 3 ∷ cell q 0 3 ∷ [])
+    ∷ []
+
+-- the four columns are mixed, with the first eight message words
+unfoldable pub columns : List (List ℕ) → List ℕ → List (List ℕ)
+columns s m =
+    ofColumns
+    (G (cell s 0 0) (cell s 1 0) (cell s 2 0) (cell s 3 0) (word m 0) (word m 1)
+    ∷ G (cell s 0 1) (cell s 1 1) (cell s 2 1) (cell s 3 1) (word m 2) (word m 3)
+    ∷ G (cell s 0 2) (cell s 1 2) (cell s 2 2) (cell s 3 2) (word m 4) (word m 5)
+    ∷ G (cell s 0 3) (cell s 1 3) (cell s 2 3) (cell s 3 3) (word m 6) (word m 7)
+    ∷ [])
+
+-- and the four diagonals, with the last eight
+unfoldable pub diagonals : List (List ℕ) → List ℕ → List (List ℕ)
+diagonals s m =
+    ofDiagonals
+    (G (cell s 0 0) (cell s 1 1) (cell s 2 2) (cell s 3 3) (word m 8) (word m 9)
+    ∷ G (cell s 0 1) (cell s 1 2) (cell s 2 3) (cell s 3 0) (word m 10) (word m 11)
+    ∷ G (cell s 0 2) (cell s 1 3) (cell s 2 0) (cell s 3 1) (word m 12) (word m 13)
+    ∷ G (cell s 0 3) (cell s 1 0) (cell s 2 1) (cell s 3 2) (word m 14) (word m 15)
+    ∷ [])
+
+-- a round: columns, then diagonals
+unfoldable pub round : List (List ℕ) → List ℕ → List (List ℕ)
+round s m = diagonals (columns s m) m
+
+-- "between rounds the message words are permuted"
+unfoldable pub permuted : List ℕ → List ℕ
+permuted m = map (word m) permutation
+
+-- n rounds
+unfoldable pub rounds : ℕ → List (List ℕ) → List ℕ → List (List ℕ)
+rounds zero s m = s
+rounds (suc n) s m = rounds n (round s m) (permuted m)
+
+-- ---- the compression function
+
+-- the state that the rounds start from: the chaining value h, half the initial value, the counter t in two words, the block's
+-- length b, the flags d
+unfoldable pub initial : List ℕ → ℕ → ℕ → ℕ → List (List ℕ)
+initial h t b d =
+    (word h 0 ∷ word h 1 ∷ word h 2 ∷ word h 3 ∷ [])
+    ∷ (word h 4 ∷ word h 5 ∷ word h 6 ∷ word h 7 ∷ [])
+    ∷ (word IV 0 ∷ word IV 1 ∷ word IV 2 ∷ word IV 3 ∷ [])
+    ∷ (t % 2 ^ 32 ∷ t / 2 ^ 32 ∷ b ∷ d ∷ [])
+    ∷ []
+
+-- the first eight words of the output, which are the chaining value: the upper half of the state against the lower
+unfoldable pub output : List (List ℕ) → List ℕ
+output s =
+    bitXor (cell s 0 0) (cell s 2 0)
+    ∷ bitXor (cell s 0 1) (cell s 2 1)
+    ∷ bitXor (cell s 0 2) (cell s 2 2)
+    ∷ bitXor (cell s 0 3) (cell s 2 3)
+    ∷ bitXor (cell s 1 0) (cell s 3 0)
+    ∷ bitXor (cell s 1 1) (cell s 3 1)
+    ∷ bitXor (cell s 1 2) (cell s 3 2)
+    ∷ bitXor (cell s 1 3) (cell s 3 3)
+    ∷ []
+
+-- the compression of the message words m of a block: 7 rounds
+unfoldable pub compress : List ℕ → List ℕ → ℕ → ℕ → ℕ → List ℕ
+compress h m t b d = output (rounds 7 (initial h t b d) m)
+
+-- ---- rows, as the code works on them
+
+-- the sums of two rows
+unfoldable pub sums : List ℕ → List ℕ → List ℕ
+sums x y =
+    add32 (word x 0) (word y 0) ∷ add32 (word x 1) (word y 1) ∷ add32 (word x 2) (word y 2) ∷ add32 (word x 3) (word y 3) ∷ []
+
+-- two rows against each other, rotated right by n
+unfoldable pub turned : List ℕ → List ℕ → ℕ → List ℕ
+turned x y n =
+    rotr (bitXor (word x 0) (word y 0)) n
+    ∷ rotr (bitXor (word x 1) (word y 1)) n
+    ∷ rotr (bitXor (word x 2) (word y 2)) n
+    ∷ rotr (bitXor (word x 3) (word y 3)) n
+    ∷ []
+
+-- the four columns of s mixed, column j with word j of x and of y
+unfoldable pub mixed : List (List ℕ) → List ℕ → List ℕ → List (List ℕ)
+mixed s x y =
+    ofColumns
+    (G (cell s 0 0) (cell s 1 0) (cell s 2 0) (cell s 3 0) (word x 0) (word y 0)
+    ∷ G (cell s 0 1) (cell s 1 1) (cell s 2 1) (cell s 3 1) (word x 1) (word y 1)
+    ∷ G (cell s 0 2) (cell s 1 2) (cell s 2 2) (cell s 3 2) (word x 2) (word y 2)
+    ∷ G (cell s 0 3) (cell s 1 3) (cell s 2 3) (cell s 3 3) (word x 3) (word y 3)
+    ∷ [])

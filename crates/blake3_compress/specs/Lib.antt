@@ -1,0 +1,2 @@
+-- The definitions that the contracts of blake3_compress cite.
+pub mod Compress
