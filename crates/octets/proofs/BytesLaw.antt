@@ -1,10 +1,11 @@
 -- Lists of bytes stay lists of bytes: a part, two put together, one with a part replaced, a byte repeated. Assumes nothing.
-use mathlib.Core.Path.{_≡_, refl, ap, sym, subst}
+use mathlib.Core.Path.{_≡_, refl, ap, sym, _∙_}
 use mathlib.Core.List.{List, [], _∷_, _++_}
-use Prim.Native.Nat.{ℕ, zero, suc, _+_, _≤_, _<_}
+use Prim.Native.Nat.{ℕ, zero, suc, _+_, _-_, _≤_, _<_}
+use native.Mathlib.Nat.{sub-zero, zero-sub, suc-sub-suc}
 use native.Mathlib.Omega.{arith}
 use lib.Dec.{lit<}
-use lib.ListN.{length, take, drop, getD, length-replicate, getD-replicate}
+use lib.ListN.{length, take, drop, getD, replicate, length-replicate, getD-replicate}
 use lib.Seq.{drop-nil}
 use Rattle.octets.specs.Part.{AreBytes, part, replaced, repeated}
 
@@ -57,6 +58,12 @@ repeated-are (suc n) b h = cons-are b (repeated n b) h (repeated-are n b h)
 pub repeated-length : (n b : ℕ) → length (repeated n b) ≡ n
 unfolding repeated
 repeated-length n b = length-replicate n b
+
+pub repeated-drop : (n b k : ℕ) → drop k (repeated n b) ≡ repeated (n - k) b
+unfolding repeated
+repeated-drop n b zero = ap (λ (i : ℕ). replicate i b) (sym (sub-zero n))
+repeated-drop zero b (suc k) = ap (λ (i : ℕ). replicate i b) (sym (zero-sub (suc k)))
+repeated-drop (suc n) b (suc k) = repeated-drop n b k ∙ ap (λ (i : ℕ). replicate i b) (sym (suc-sub-suc n k))
 
 pub repeated-at : (n b i : ℕ) → i < n → getD (repeated n b) i 0 ≡ b
 unfolding repeated

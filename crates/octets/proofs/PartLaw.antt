@@ -1,7 +1,7 @@
 -- Laws of a part of a list: its length, a part of a part, of two lists put together, two parts side by side. Assumes nothing.
 use mathlib.Core.Path.{_≡_, refl, ap, sym, _∙_}
 use mathlib.Core.List.{List, [], _∷_, _++_}
-use Prim.Native.Nat.{ℕ, zero, suc, _+_, _-_, _≤_, _<_}
+use Prim.Native.Nat.{ℕ, zero, suc, _+_, _-_, _≤_, _<_, min}
 use native.Mathlib.Nat.{add-zero, sub-zero, suc-sub-suc}
 use native.Mathlib.Omega.{arith}
 use lib.ListN.{length, take, drop, getD, length-append, length-take, length-drop, take-append-drop}
@@ -20,13 +20,24 @@ pub part-all : (l : List ℕ) (n : ℕ) → length l ≤ n → part l 0 n ≡ l
 unfolding part
 part-all l n h = take-all n l h
 
-drop-take : (f k : ℕ) (l : List ℕ) → drop f (take k l) ≡ take (k - f) (drop f l)
+-- what is left of the first k elements without the first f
+pub drop-take : (f k : ℕ) (l : List ℕ) → drop f (take k l) ≡ take (k - f) (drop f l)
 drop-take zero k l = ap (λ (n : ℕ). take n l) (sym (sub-zero k))
 drop-take (suc f) zero l =
     let none : 0 - suc f ≡ 0 = omega arith in
     drop-nil (suc f) ∙ ap (λ (n : ℕ). take n (drop (suc f) l)) (sym none)
 drop-take (suc f) (suc k) [] = drop-nil (suc f) ∙ sym (take-nil (suc k - suc f))
 drop-take (suc f) (suc k) (x ∷ l) = drop-take f k l ∙ ap (λ (n : ℕ). take n (drop f l)) (sym (suc-sub-suc k f))
+
+-- the length of a part that may run past the end
+pub part-length-min : (l : List ℕ) (at n : ℕ) → length (part l at n) ≡ min n (length l - at)
+unfolding part
+part-length-min l at n = length-take n (drop at l) ∙ ap (min n) (length-drop at l)
+
+-- a part that runs past the end is all that is left
+pub part-rest : (l : List ℕ) (at n : ℕ) → length l ≤ at + n → part l at n ≡ drop at l
+unfolding part
+part-rest l at n h = take-all n (drop at l) (omega (arith, length-drop at l))
 
 -- a part of a part
 pub part-part : (l : List ℕ) (at k f n : ℕ) → f + n ≤ k → part (part l at k) f n ≡ part l (at + f) n

@@ -1,0 +1,200 @@
+-- The split of a subtree, its levels, its two sides put together. Assumes nothing.
+use Prim.Native.Nat.{ℕ, zero, suc, _+_, _-_, _*_, _/_, _^_, _<_, _≤_}
+use mathlib.Core.Path.{_≡_, refl, ap, ap₂, sym, subst, _∙_}
+use mathlib.Core.Logic.{⊎-elim}
+use mathlib.Core.List.{List, [], _∷_, _++_, append-nil}
+use native.Mathlib.Decide.{decLe}
+use native.Mathlib.Nat.{pow-suc, eq-or-lt-of-le, lt-of-not-le, add-zero}
+use native.Mathlib.Omega.{arith}
+use borrow.Author.Tests.{lt-ltb, le-ltb, le-leb, lt-leb}
+use lib.ListN.{length, getD, take, drop, length-take, length-drop, length-append}
+use lib.Pow.{pow-mono, pow-pos}
+use lib.Seq.{take-all}
+use Rattle.octets.specs.Part.{part, replaced, repeated}
+use Rattle.octets.proofs.PartLaw.{part-all}
+use Rattle.octets.proofs.BytesLaw.{repeated-length}
+use Rattle.blake3_compress.specs.Compress.{IV, compress}
+use Rattle.blake3_compress.proofs.CompressLaw.{compress-length}
+use Rattle.blake3.specs.Blake3 as B
+use Rattle.blake3.proofs.WordLaw.{append-small}
+use Rattle.blake3.proofs.OutputLaw.{bytesOf-length, words-bytesOf, stored-two}
+
+split : {A : Type 0} (a b : ℕ) → (a ≤ b → A) → (b < a → A) → A
+split a b f g = elim (decLe a b) [ yes h ↦ f h | no h ↦ g (lt-of-not-le h) ]
+
+-- ---- the left side
+
+-- a power that is below n, and whose double is not, is the largest
+largest-is : (k n j : ℕ) → j ≤ k → 1024 * 2 ^ j < n → n ≤ 1024 * 2 ^ j + 1024 * 2 ^ j → B.largest k n ≡ 1024 * 2 ^ j
+unfolding B.largest
+largest-is zero n j h lo hi =
+    let e : j ≡ 0 = omega arith in
+    rw e
+largest-is (suc k) n j h lo hi =
+    ⊎-elim
+    (λ e.
+    rw (B.largest, lt-ltb (1024 * 2 ^ suc k) n (subst (λ (z : ℕ). 1024 * 2 ^ z < n) e lo)) (ap (λ (z : ℕ). 1024 * 2 ^ z) (sym e)))
+    (λ l.
+    let m : 2 ^ suc j ≤ 2 ^ suc k = pow-mono l in
+    rw (B.largest, le-ltb (1024 * 2 ^ suc k) n (omega (arith, pow-suc 2 j))) (largest-is k n j (omega arith) lo hi))
+    (eq-or-lt-of-le h)
+
+-- the loop that doubles: l is a power of whole chunks below n
+pub record Doubled (n l : ℕ) : Type 0 where
+  pub power : ℕ
+  pub is : l ≡ 1024 * 2 ^ power
+  pub bound : power ≤ l
+  pub low : 1024 ≤ l
+  pub high : l < n
+
+pub doubled-start : (n : ℕ) → 1024 < n → Doubled n 1024
+doubled-start n h = record { power = 0; is = refl; bound = omega arith; low = omega arith; high = h }
+
+pub doubled-step : (n l : ℕ) → Doubled n l → l + l < n → Doubled n (l + l)
+doubled-step n l p h =
+    let e = p .is in
+    let b = p .bound in
+    let o = p .low in
+    record { power = suc (p .power); is = omega (arith, pow-suc 2 (p .power)); bound = omega arith; low = omega arith; high = h }
+
+pub doubled-end : (n l : ℕ) → Doubled n l → n ≤ l + l → l ≡ B.leftSize n
+unfolding B.leftSize
+doubled-end n l p h =
+    p .is
+    ∙ sym (largest-is n n (p .power) (omega (arith, p .bound, p .high)) (omega (arith, p .is, p .high)) (omega (arith, p .is)))
+
+-- it is a power of whole chunks, and no power below n is larger
+pub largest-power : (k n : ℕ) → (j : ℕ) × (B.largest k n ≡ 1024 * 2 ^ j)
+unfolding B.largest
+largest-power zero n = (0, refl)
+largest-power (suc k) n =
+    split n (1024 * 2 ^ suc k)
+    (λ h. (largest-power k n .0, rw (B.largest, le-ltb (1024 * 2 ^ suc k) n h) (largest-power k n .1)))
+    (λ h. (suc k, rw (B.largest, lt-ltb (1024 * 2 ^ suc k) n h)))
+
+pub largest-ge : (k n : ℕ) → 1024 ≤ B.largest k n
+largest-ge k n =
+    let p = largest-power k n in
+    omega (arith, p .1, pow-pos (p .0))
+
+pub largest-lt : (k n : ℕ) → 1024 < n → B.largest k n < n
+unfolding B.largest
+largest-lt zero n l = l
+largest-lt (suc k) n l =
+    split n (1024 * 2 ^ suc k)
+    (λ h. rw (B.largest, le-ltb (1024 * 2 ^ suc k) n h) (largest-lt k n l))
+    (λ h. rw (B.largest, lt-ltb (1024 * 2 ^ suc k) n h) h)
+
+pub largest-most : (k n j : ℕ) → j ≤ k → 1024 * 2 ^ j < n → 1024 * 2 ^ j ≤ B.largest k n
+unfolding B.largest
+largest-most zero n j h l =
+    let e : j ≡ 0 = omega arith in
+    rw e (omega arith)
+largest-most (suc k) n j h l =
+    split n (1024 * 2 ^ suc k)
+    (λ u.
+    rw (B.largest, le-ltb (1024 * 2 ^ suc k) n u)
+    (⊎-elim
+    (λ e. absurd (omega (arith, subst (λ (z : ℕ). 1024 * 2 ^ z < n) e l)))
+    (λ i. largest-most k n j (omega arith) l)
+    (eq-or-lt-of-le h)))
+    (λ u.
+    let m : 2 ^ j ≤ 2 ^ suc k = pow-mono h in
+    rw (B.largest, lt-ltb (1024 * 2 ^ suc k) n u) (omega arith))
+
+pub left-ge : (n : ℕ) → 1024 ≤ B.leftSize n
+unfolding B.leftSize
+left-ge n = largest-ge n n
+
+pub left-lt : (n : ℕ) → 1024 < n → B.leftSize n < n
+unfolding B.leftSize
+left-lt n = largest-lt n n
+
+-- ---- levels
+
+tree-small : (f : ℕ) (s : List ℕ) (t root : ℕ) → length s ≤ 1024 → B.chunk s t root ≡ B.tree f s t root
+unfolding B.tree
+tree-small zero s t root h = refl
+tree-small (suc f) s t root h = rw (B.tree, le-leb (length s) 1024 h)
+
+-- more levels than bytes change nothing
+pub tree-enough : (f g : ℕ) (s : List ℕ) (t root : ℕ) → length s ≤ f → length s ≤ g → B.tree f s t root ≡ B.tree g s t root
+unfolding B.tree
+tree-enough zero g s t root hf hg = tree-small g s t root (omega arith)
+tree-enough (suc f) zero s t root hf hg = sym (tree-small (suc f) s t root (omega arith))
+tree-enough (suc f) (suc g) s t root hf hg =
+    split (length s) 1024
+    (λ h. sym (tree-small (suc f) s t root h) ∙ tree-small (suc g) s t root h)
+    (λ h.
+    let l = B.leftSize (length s) in
+    let lo = left-ge (length s) in
+    let hi = left-lt (length s) h in
+    let left : B.tree f (take l s) t 0 ≡ B.tree g (take l s) t 0 =
+    tree-enough f g (take l s) t 0 (simp length-take (omega arith)) (simp length-take (omega arith)) in
+    let right : B.tree f (drop l s) (t + l / 1024) 0 ≡ B.tree g (drop l s) (t + l / 1024) 0 =
+    tree-enough f g (drop l s) (t + l / 1024) 0 (simp length-drop (omega arith)) (simp length-drop (omega arith)) in
+    rw (B.tree, lt-leb (length s) 1024 h, left, right))
+
+-- ---- a subtree
+
+-- of one chunk
+pub subtree-small : (s : List ℕ) (t root : ℕ) → length s ≤ 1024 → B.chunk s t root ≡ B.subtree s t root
+unfolding B.subtree
+subtree-small s t root h = tree-small (length s) s t root h
+
+-- of more, from the results for its two sides
+pub subtree-big : (s : List ℕ) (t root l : ℕ) (a b r : List ℕ) → 1024 < length s → l ≡ B.leftSize (length s)
+    → a ≡ B.subtree (take l s) t 0 → b ≡ B.subtree (take (length s - l) (drop l s)) (t + l / 1024) 0
+    → r ≡ B.parent a b root → r ≡ B.subtree s t root
+unfolding B.subtree B.tree
+subtree-big s t root l a b r big e pa pb q =
+    let lo = left-ge (length s) in
+    let hi = left-lt (length s) big in
+    let rest : take (length s - l) (drop l s) ≡ drop l s = take-all (length s - l) (drop l s) (simp length-drop (omega arith)) in
+    let left : a ≡ B.tree (length s - 1) (take l s) t 0 =
+    pa ∙ tree-enough (length (take l s)) (length s - 1) (take l s) t 0 (omega arith) (simp length-take (omega arith)) in
+    let right : b ≡ B.tree (length s - 1) (drop l s) (t + l / 1024) 0 =
+    (rw rest at pb)
+    ∙ tree-enough (length (drop l s)) (length s - 1) (drop l s) (t + l / 1024) 0 (omega arith) (simp length-drop (omega arith)) in
+    let more : length s ≡ suc (length s - 1) = omega arith in
+    let whole : r ≡ B.tree (suc (length s - 1)) s t root =
+    rw (B.tree, lt-leb (length s) 1024 big, ← e) (q ∙ rw (left, right)) in
+    whole ∙ ap (λ (n : ℕ). B.tree n s t root) (sym more)
+
+-- a parent is a chunk of one block: the 64 bytes of its two chaining values
+pub parent-of : (z x y l r h : List ℕ) (root : ℕ) → length z ≡ 64 → length l ≡ 8 → length r ≡ 8
+    → ((i : ℕ) → getD l i 0 < 2 ^ 32) → ((i : ℕ) → getD r i 0 < 2 ^ 32)
+    → x ≡ replaced z 0 (B.bytesOf l) → y ≡ replaced x 32 (B.bytesOf r)
+    → h ≡ B.chain y 0 4 root (B.blocks (length y)) → h ≡ B.parent l r root
+unfolding B.parent B.chain B.blocks B.block B.message B.flags repeated
+parent-of z x y l r h root hz hl hr sl sr ex ey e =
+    let place : 32 ≡ 4 * length l = omega arith in
+    let is : y ≡ B.bytesOf (l ++ r) =
+    stored-two z x y l r (omega arith) ex (ey ∙ ap (λ (n : ℕ). replaced x n (B.bytesOf r)) place) in
+    let joined : length (l ++ r) ≡ 16 = omega (arith, length-append l r) in
+    let size : length y ≡ 64 = ap length is ∙ omega (arith, bytesOf-length (l ++ r)) in
+    let whole : part y 0 64 ≡ y = part-all y 64 (omega arith) in
+    let read : B.words 16 y ≡ l ++ r =
+    ap₂ B.words (sym joined) is ∙ words-bytesOf (l ++ r) (append-small (2 ^ 32) l r sl sr) in
+    e
+    ∙ rw (size, whole, size, append-nil y, read)
+
+-- ---- lengths
+
+chain-length : (s : List ℕ) (t first last k : ℕ) → length (B.chain s t first last k) ≡ 8
+unfolding B.chain
+chain-length s t first last zero = refl
+chain-length s t first last (suc k) = compress-length _ _ _ _ _
+
+tree-length : (f : ℕ) (s : List ℕ) (t root : ℕ) → length (B.tree f s t root) ≡ 8
+unfolding B.tree B.chunk B.parent
+tree-length zero s t root = chain-length s t 1 (2 + root) (B.blocks (length s))
+tree-length (suc f) s t root =
+    split (length s) 1024
+    (λ h. rw (B.tree, le-leb (length s) 1024 h) (chain-length s t 1 (2 + root) (B.blocks (length s))))
+    (λ h. rw (B.tree, lt-leb (length s) 1024 h) (compress-length _ _ _ _ _))
+
+-- an output is eight words
+pub subtree-length : (s : List ℕ) (t root : ℕ) → length (B.subtree s t root) ≡ 8
+unfolding B.subtree
+subtree-length s t root = tree-length (length s) s t root

@@ -1,0 +1,106 @@
+// A chunk: its blocks compressed one after the other.
+use blake3_compress::IV;
+use blake3_compress::compress;
+use octets::load_u32;
+ghost use mathlib.Core.Path.{_≡_};
+ghost use Prim.Native.Nat.{_+_, _-_, _≤_, _<_, min};
+ghost use lib.ListN.{length, drop};
+ghost use Rattle.octets.specs.Part.{part};
+ghost use Rattle.blake3.specs.Blake3 as B;
+
+// The message words of the 64 bytes from at on.
+fn words(s: &[u8], at: usize) -> [u32; 16]
+    requires { ⌜ at + 64 ≤ length (now s) ⌝ }
+    ensures { λ r. ⌜ r ≡ B.words 16 (drop at (now (s .entry))) ⌝ }
+{
+    [
+        load_u32(s, at),
+        load_u32(s, at + 4),
+        load_u32(s, at + 8),
+        load_u32(s, at + 12),
+        load_u32(s, at + 16),
+        load_u32(s, at + 20),
+        load_u32(s, at + 24),
+        load_u32(s, at + 28),
+        load_u32(s, at + 32),
+        load_u32(s, at + 36),
+        load_u32(s, at + 40),
+        load_u32(s, at + 44),
+        load_u32(s, at + 48),
+        load_u32(s, at + 52),
+        load_u32(s, at + 56),
+        load_u32(s, at + 60),
+    ]
+}
+
+// The message words of a short block, which starts at at.
+fn tail(s: &[u8], at: usize) -> [u32; 16]
+    requires { ⌜ (at ≤ length (now s)) × (length (now s) ≤ at + 64) ⌝ }
+    ensures { λ r. ⌜ r ≡ B.message (part (now (s .entry)) at 64) ⌝ }
+{
+    let mut b = [0u8; 64];
+    octets::copy(s, at, &mut b, 0, s.len() - at);
+    words(&b, 0)
+}
+
+// The message words of the block that starts at at.
+fn message(s: &[u8], at: usize) -> [u32; 16]
+    requires { ⌜ at ≤ length (now s) ⌝ }
+    ensures { λ r. ⌜ r ≡ B.message (part (now (s .entry)) at 64) ⌝ }
+{
+    if s.len() - at < 64 {
+        tail(s, at)
+    } else {
+        words(s, at)
+    }
+}
+
+// How many blocks n bytes have.
+fn blocks(n: usize) -> usize
+    ensures { λ r. ⌜ r ≡ B.blocks n ⌝ }
+{
+    if n == 0 { 1 } else { (n - 1) / 64 + 1 }
+}
+
+// The length of a block from which n bytes are left.
+fn block_len(n: usize) -> u32
+    ensures { λ r. ⌜ r ≡ min 64 n ⌝ }
+{
+    if n < 64 { n as u32 } else { 64 }
+}
+
+// The flags of block k of n.
+fn flags(first: u32, last: u32, n: usize, k: usize) -> u32
+    requires { ⌜ (first < 16) × (last < 16) × (k < n) ⌝ }
+    ensures { λ r. ⌜ r ≡ B.flags first last n k ⌝ }
+{
+    if k == 0 {
+        if n == 1 { first + last } else { first }
+    } else {
+        if k + 1 == n { last } else { 0 }
+    }
+}
+
+// The chaining value after all blocks of s, whose counter is t. It is the one place that compresses, a chunk's blocks
+// and a parent's: so the compression is compiled in place, and the chaining value stays in registers.
+pub(crate) fn chain(s: &[u8], t: u32, first: u32, last: u32) -> [u32; 8]
+    requires { ⌜ (length (now s) ≤ 1024) × (first < 16) × (last < 16) ⌝ }
+    ensures { λ r. ⌜ r ≡ B.chain (now (s .entry)) t first last (B.blocks (length (now (s .entry)))) ⌝ }
+{
+    let mut h = IV;
+    let n = blocks(s.len());
+    let mut k = 0;
+    while k < n {
+        let at = 64 * k;
+        let next = compress(
+            h,
+            message(s, at),
+            t,
+            block_len(s.len() - at),
+            flags(first, last, n, k),
+        );
+        h = next;
+        k += 1;
+    }
+    h
+}
