@@ -1,0 +1,24 @@
+-- The exported digest, after document 01, "Tag": "The digest itself takes 0 to 65,536 bytes and fills 32; for other lengths question 6
+-- says no." Assumes nothing: these are definitions.
+use Prim.Native.Nat.{ℕ}
+use mathlib.Core.Bool.{Bool, true, false, _&&_}
+use mathlib.Core.List.{List}
+use lib.ListN.{length}
+use lib.Dec.{leb, eqb}
+use Rattle.blake3.specs.Blake3.{digest}
+
+-- what a call leaves: the number answered, and what the room for the digest then holds
+pub record Outcome : Type 0 where
+  pub number : ℕ
+  pub out : List ℕ
+
+abbrev pub outcome : ℕ → List ℕ → Outcome
+outcome number out = record { number = number; out = out }
+
+-- question 6: an input of 0 to 65,536 bytes, and room for 32
+unfoldable pub fits : List ℕ → List ℕ → Bool
+fits input out = leb (length input) 65536 && eqb (length out) 32
+
+-- yes: 0, and the digest. No: 6, and the room is as it was
+unfoldable pub digestCall : List ℕ → List ℕ → Outcome
+digestCall input out = elim (fits input out) [ true ↦ outcome 0 (digest input) | false ↦ outcome 6 out ]
