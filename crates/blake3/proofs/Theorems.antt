@@ -8,9 +8,9 @@ use lib.ListN.{length}
 use lib.Dec.{lit<}
 use Rattle.octets.specs.Part.{AreBytes}
 use Rattle.blake3.specs.Blake3 as B
-use Rattle.blake3.specs.Claims.{DigestIsBytes, LargestLeft, LeftIsLargest, LevelsAreEnough}
+use Rattle.blake3.specs.Claims.{DigestIsBytes, LeftIsLargest, LevelsAreEnough, SubtreeIsRecursive}
 use Rattle.blake3.proofs.OutputLaw.{bytesOf-length, bytesOf-are}
-use Rattle.blake3.proofs.TreeLaw.{largest-power, largest-lt, largest-most, tree-enough, subtree-length}
+use Rattle.blake3.proofs.TreeLaw.{largest-power, largest-lt, largest-most, tree-enough, subtree-small, subtree-large, subtree-length}
 
 pub digest-is-bytes : DigestIsBytes
 unfolding DigestIsBytes B.digest
@@ -37,3 +37,7 @@ left-is-largest n h =
 pub levels-are-enough : LevelsAreEnough
 unfolding LevelsAreEnough
 levels-are-enough = tree-enough
+
+pub subtree-is-recursive : SubtreeIsRecursive
+unfolding SubtreeIsRecursive
+subtree-is-recursive s t root = record { small = subtree-small s t root; large = subtree-large s t root }

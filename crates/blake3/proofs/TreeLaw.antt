@@ -138,28 +138,40 @@ tree-enough (suc f) (suc g) s t root hf hg =
 -- ---- a subtree
 
 -- of one chunk
-pub subtree-small : (s : List ℕ) (t root : ℕ) → length s ≤ 1024 → B.chunk s t root ≡ B.subtree s t root
+pub subtree-small : (s : List ℕ) (t root : ℕ) → length s ≤ 1024 → B.subtree s t root ≡ B.chunk s t root
 unfolding B.subtree
-subtree-small s t root h = tree-small (length s) s t root h
+subtree-small s t root h = sym (tree-small (length s) s t root h)
 
--- of more, from the results for its two sides
-pub subtree-big : (s : List ℕ) (t root l : ℕ) (a b r : List ℕ) → 1024 < length s → l ≡ B.leftSize (length s)
-    → a ≡ B.subtree (take l s) t 0 → b ≡ B.subtree (take (length s - l) (drop l s)) (t + l / 1024) 0
-    → r ≡ B.parent a b root → r ≡ B.subtree s t root
+-- of more: the parent of its two sides
+pub subtree-large : (s : List ℕ) (t root : ℕ) → 1024 < length s
+    → B.subtree s t root
+    ≡ B.parent
+    (B.subtree (take (B.leftSize (length s)) s) t 0)
+    (B.subtree (drop (B.leftSize (length s)) s) (t + B.leftSize (length s) / 1024) 0)
+    root
 unfolding B.subtree B.tree
-subtree-big s t root l a b r big e pa pb q =
+subtree-large s t root h =
+    let l = B.leftSize (length s) in
     let lo = left-ge (length s) in
-    let hi = left-lt (length s) big in
-    let rest : take (length s - l) (drop l s) ≡ drop l s = take-all (length s - l) (drop l s) (simp length-drop (omega arith)) in
-    let left : a ≡ B.tree (length s - 1) (take l s) t 0 =
-    pa ∙ tree-enough (length (take l s)) (length s - 1) (take l s) t 0 (omega arith) (simp length-take (omega arith)) in
-    let right : b ≡ B.tree (length s - 1) (drop l s) (t + l / 1024) 0 =
-    (rw rest at pb)
-    ∙ tree-enough (length (drop l s)) (length s - 1) (drop l s) (t + l / 1024) 0 (omega arith) (simp length-drop (omega arith)) in
+    let hi = left-lt (length s) h in
+    let left : B.tree (length s - 1) (take l s) t 0 ≡ B.tree (length (take l s)) (take l s) t 0 =
+    tree-enough (length s - 1) (length (take l s)) (take l s) t 0 (simp length-take (omega arith)) (omega arith) in
+    let right : B.tree (length s - 1) (drop l s) (t + l / 1024) 0 ≡ B.tree (length (drop l s)) (drop l s) (t + l / 1024) 0 =
+    tree-enough (length s - 1) (length (drop l s)) (drop l s) (t + l / 1024) 0 (simp length-drop (omega arith)) (omega arith) in
     let more : length s ≡ suc (length s - 1) = omega arith in
-    let whole : r ≡ B.tree (suc (length s - 1)) s t root =
-    rw (B.tree, lt-leb (length s) 1024 big, ← e) (q ∙ rw (left, right)) in
-    whole ∙ ap (λ (n : ℕ). B.tree n s t root) (sym more)
+    ap (λ (n : ℕ). B.tree n s t root) more
+    ∙ rw (B.tree, lt-leb (length s) 1024 h) (ap₂ (λ (a b : List ℕ). B.parent a b root) left right)
+
+-- the same from the results for the two sides, as the code takes them
+pub subtree-of : (s : List ℕ) (t root l : ℕ) (a b r : List ℕ) → 1024 < length s → l ≡ B.leftSize (length s)
+    → a ≡ B.subtree (take l s) t 0 → b ≡ B.subtree (take (length s - l) (drop l s)) (t + l / 1024) 0 → r ≡ B.parent a b root
+    → r ≡ B.subtree s t root
+subtree-of s t root l a b r h e pa pb q =
+    let rest : take (length s - l) (drop l s) ≡ drop l s = take-all (length s - l) (drop l s) (simp length-drop (omega arith)) in
+    q
+    ∙ ap₂ (λ (x y : List ℕ). B.parent x y root) pa (rw rest at pb)
+    ∙ ap (λ (k : ℕ). B.parent (B.subtree (take k s) t 0) (B.subtree (drop k s) (t + k / 1024) 0) root) e
+    ∙ sym (subtree-large s t root h)
 
 -- a parent is a chunk of one block: the 64 bytes of its two chaining values
 pub parent-of : (z x y l r h : List ℕ) (root : ℕ) → length z ≡ 64 → length l ≡ 8 → length r ≡ 8

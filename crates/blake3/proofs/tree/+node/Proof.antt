@@ -2,12 +2,12 @@
 use borrow.Author.Needs.{needs}
 use borrow.Fn.Kinds.{In}
 use borrow.Fn.PlainCycle.{Measures, is, falls, and}
-use mathlib.Core.Path.{_∙_}
+use mathlib.Core.Path.{sym, _∙_}
 use native.Mathlib.Omega.{arith}
 use Prim.Native.Nat.{ℕ, _<_}
 use lib.ListN.{length, length-take}
 use Rattle.blake3.specs.Blake3 as B
-use Rattle.blake3.proofs.TreeLaw.{subtree-small, subtree-big}
+use Rattle.blake3.proofs.TreeLaw.{subtree-small, subtree-of}
 use Rattle.blake3.proofs.tree.node.Reads as node
 use Rattle.blake3.proofs.tree.node.Kinds as node-kinds
 use Rattle.blake3.proofs.tree.+node.Lts-node as node-lts
@@ -52,10 +52,10 @@ unfolding B.chunk
     (λ c. search needs)
     (λ c κs. search needs)
     (λ c κs. search needs)
-    (λ c. c .chain .ensures ∙ subtree-small _ _ _ (c .before .if1 .taken))
+    (λ c. c .chain .ensures ∙ sym (subtree-small _ _ _ (c .before .if1 .taken)))
     (λ c.
     let sides = c .before in
     let sized = sides .before .before .before .before in
-    subtree-big _ _ _ _ _ _ _ (sized .before .if1 .left) (sized .left-size .ensures .0) (sides .before .before .node .ensures)
+    subtree-of _ _ _ _ _ _ _ (sized .before .if1 .left) (sized .left-size .ensures .0) (sides .before .before .node .ensures)
     (sides .node2 .ensures)
     (c .parent .ensures))
