@@ -1,0 +1,2 @@
+-- The claims of specs/Published.antt, proved.
+pub mod Computed
