@@ -41,7 +41,7 @@ fn left_size(n: usize) -> usize
 
 // The parent of two chaining values: their 64 bytes are its one block, the first and the last.
 fn parent(l: [u32; 8], r: [u32; 8], root: u32) -> [u32; 8]
-    requires { ⌜ root < 14 ⌝ }
+    requires { ⌜ root ≤ 8 ⌝ }
     ensures { λ h. ⌜ h ≡ B.parent l r root ⌝ }
 {
     let mut b = [0u8; 64];
@@ -52,7 +52,7 @@ fn parent(l: [u32; 8], r: [u32; 8], root: u32) -> [u32; 8]
 
 // The output of the subtree over s, whose first chunk is number t of the input.
 pub(crate) fn node(s: &[u8], t: u32, root: u32) -> [u32; 8]
-    requires { ⌜ (t * 1024 + length (now s) < 2 ^ 32) × (root < 14) ⌝ }
+    requires { ⌜ (t * 1024 + length (now s) < 2 ^ 32) × (root ≤ 8) ⌝ }
     ensures { λ r. ⌜ r ≡ B.subtree (now (s .entry)) t root ⌝ }
 {
     if s.len() <= CHUNK {

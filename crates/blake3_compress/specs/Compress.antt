@@ -68,15 +68,20 @@ ofDiagonals q =
     ∷ (cell q 1 3 ∷ cell q 2 3 ∷ cell q 3 3 ∷ cell q 0 3 ∷ [])
     ∷ []
 
+-- the four columns of s mixed, column j with word j of x and of y
+unfoldable pub mixed : List (List ℕ) → List ℕ → List ℕ → List (List ℕ)
+mixed s x y =
+    ofColumns
+    (G (cell s 0 0) (cell s 1 0) (cell s 2 0) (cell s 3 0) (word x 0) (word y 0)
+    ∷ G (cell s 0 1) (cell s 1 1) (cell s 2 1) (cell s 3 1) (word x 1) (word y 1)
+    ∷ G (cell s 0 2) (cell s 1 2) (cell s 2 2) (cell s 3 2) (word x 2) (word y 2)
+    ∷ G (cell s 0 3) (cell s 1 3) (cell s 2 3) (cell s 3 3) (word x 3) (word y 3)
+    ∷ [])
+
 -- the four columns are mixed, with the first eight message words
 unfoldable pub columns : List (List ℕ) → List ℕ → List (List ℕ)
 columns s m =
-    ofColumns
-    (G (cell s 0 0) (cell s 1 0) (cell s 2 0) (cell s 3 0) (word m 0) (word m 1)
-    ∷ G (cell s 0 1) (cell s 1 1) (cell s 2 1) (cell s 3 1) (word m 2) (word m 3)
-    ∷ G (cell s 0 2) (cell s 1 2) (cell s 2 2) (cell s 3 2) (word m 4) (word m 5)
-    ∷ G (cell s 0 3) (cell s 1 3) (cell s 2 3) (cell s 3 3) (word m 6) (word m 7)
-    ∷ [])
+    mixed s (word m 0 ∷ word m 2 ∷ word m 4 ∷ word m 6 ∷ []) (word m 1 ∷ word m 3 ∷ word m 5 ∷ word m 7 ∷ [])
 
 -- and the four diagonals, with the last eight
 unfoldable pub diagonals : List (List ℕ) → List ℕ → List (List ℕ)
@@ -145,13 +150,3 @@ turned x y n =
     ∷ rotr (bitXor (word x 2) (word y 2)) n
     ∷ rotr (bitXor (word x 3) (word y 3)) n
     ∷ []
-
--- the four columns of s mixed, column j with word j of x and of y
-unfoldable pub mixed : List (List ℕ) → List ℕ → List ℕ → List (List ℕ)
-mixed s x y =
-    ofColumns
-    (G (cell s 0 0) (cell s 1 0) (cell s 2 0) (cell s 3 0) (word x 0) (word y 0)
-    ∷ G (cell s 0 1) (cell s 1 1) (cell s 2 1) (cell s 3 1) (word x 1) (word y 1)
-    ∷ G (cell s 0 2) (cell s 1 2) (cell s 2 2) (cell s 3 2) (word x 2) (word y 2)
-    ∷ G (cell s 0 3) (cell s 1 3) (cell s 2 3) (cell s 3 3) (word x 3) (word y 3)
-    ∷ [])

@@ -5,7 +5,7 @@ use Rattle.blake3_compress.proofs.columns.Statement.{statement}
 use Rattle.blake3_compress.proofs.columns.Tie as tie
 
 returns : tie.Need-returns
-unfolding C.columns C.mixed
+unfolding C.columns
 returns c = c .mix .ensures
 
 pub columns-spec : {M : Type 1} → statement M
