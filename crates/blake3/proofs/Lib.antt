@@ -3,5 +3,6 @@ pub mod WordLaw
 pub mod MessageLaw
 pub mod ChunkLaw
 pub mod OutputLaw
+pub mod LeftLaw
 pub mod TreeLaw
 pub mod Theorems

@@ -1,13 +1,13 @@
 -- Message words: sixteen words read one by one, a whole block and a short one. Assumes nothing.
-use Prim.Native.Nat.{ℕ, zero, suc, _+_, _-_, _*_, _≤_, _<_}
+use Prim.Native.Nat.{ℕ, zero, suc, _+_, _-_, _*_, _≤_}
 use mathlib.Core.Path.{_≡_, refl, ap, sym, _∙_}
 use mathlib.Core.List.{List, [], _∷_, _++_, append-nil}
 use native.Mathlib.Nat.{add-assoc, add-zero, zero-add}
 use native.Mathlib.Omega.{arith}
-use lib.ListN.{length, take, drop, length-drop}
+use lib.ListN.{length, take, drop}
 use lib.Seq.{drop-drop, take-take}
 use Rattle.octets.specs.Part.{part, replaced, repeated}
-use Rattle.octets.specs.Number.{number, numberAt}
+use Rattle.octets.specs.Number.{numberAt}
 use Rattle.octets.proofs.BytesLaw.{repeated-drop}
 use Rattle.octets.proofs.PartLaw.{part-length, part-rest, drop-take}
 use Rattle.blake3.specs.Blake3 as B

@@ -1,14 +1,14 @@
 -- The bytes of words: their number, that they are bytes, the words again, and a loop that stores them. Assumes nothing.
-use Prim.Native.Nat.{ℕ, zero, suc, _+_, _*_, _^_, _≤_, _<_}
+use Prim.Native.Nat.{ℕ, suc, _+_, _*_, _^_, _≤_, _<_}
 use mathlib.Core.Path.{_≡_, refl, ap, ap₂, sym, _∙_}
 use mathlib.Core.List.{List, [], _∷_, _++_, append-nil, append-assoc}
 use native.Mathlib.Numerals.{add-one}
 use native.Mathlib.Omega.{arith}
-use lib.ListN.{length, take, drop, getD, length-append, length-take}
+use lib.ListN.{length, take, getD, length-append}
 use lib.Seq.{take-at, drop-at, take-suc, take-all, length-take-le}
-use Rattle.octets.specs.Part.{AreBytes, part, replaced, repeated}
+use Rattle.octets.specs.Part.{AreBytes, replaced}
 use Rattle.octets.specs.Number.{number, bytes, withNumber}
-use Rattle.octets.proofs.BytesLaw.{none-are, append-are, repeated-length}
+use Rattle.octets.proofs.BytesLaw.{none-are, append-are}
 use Rattle.octets.proofs.NumberLaw.{bytes-length, bytes-are, number-bytes}
 use Rattle.octets.proofs.ReplacedLaw.{replaced-append, replaced-none, replaced-all}
 use Rattle.blake3.specs.Blake3 as B

@@ -1,16 +1,14 @@
 -- The claims of specs/Claims.antt, proved. Assumes nothing.
-use Prim.Native.Nat.{ℕ, zero, suc, _+_, _*_, _^_, _≤_, _<_}
-use mathlib.Core.Path.{_≡_, refl, ap, _∙_}
-use mathlib.Core.List.{List}
+use Prim.Native.Nat.{ℕ, zero, suc, _*_, _^_, _<_}
+use mathlib.Core.Path.{ap, _∙_}
 use native.Mathlib.Nat.{pow-suc}
 use native.Mathlib.Omega.{arith}
-use lib.ListN.{length}
 use lib.Dec.{lit<}
-use Rattle.octets.specs.Part.{AreBytes}
 use Rattle.blake3.specs.Blake3 as B
 use Rattle.blake3.specs.Claims.{DigestIsBytes, LeftIsLargest, LevelsAreEnough, SubtreeIsRecursive}
 use Rattle.blake3.proofs.OutputLaw.{bytesOf-length, bytesOf-are}
-use Rattle.blake3.proofs.TreeLaw.{largest-power, largest-lt, largest-most, tree-enough, subtree-small, subtree-large, subtree-length}
+use Rattle.blake3.proofs.LeftLaw.{largest-power, largest-lt, largest-most}
+use Rattle.blake3.proofs.TreeLaw.{tree-enough, subtree-small, subtree-large, subtree-length}
 
 pub digest-is-bytes : DigestIsBytes
 unfolding DigestIsBytes B.digest

@@ -76,8 +76,10 @@ fn flags(first: u32, last: u32, n: usize, k: usize) -> u32
 {
     if k == 0 {
         if n == 1 { first + last } else { first }
+    } else if k + 1 == n {
+        last
     } else {
-        if k + 1 == n { last } else { 0 }
+        0
     }
 }
 

@@ -1,6 +1,6 @@
 -- A half-round from the rows that its steps give, and seven rounds from their half-rounds. Assumes nothing.
 use Prim.Native.Nat.{ℕ, suc}
-use mathlib.Core.Path.{_≡_, ap, _∙_}
+use mathlib.Core.Path.{_≡_}
 use mathlib.Core.List.{List, [], _∷_}
 use Rattle.blake3_compress.specs.Compress as C
 use Rattle.blake3_compress.specs.Compress.{sums, turned, cell}

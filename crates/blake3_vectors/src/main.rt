@@ -3,8 +3,6 @@
 // `stdout` beside src/ was written by b3sum: the script `expected` beside it writes it again.
 use libc::STDOUT_FILENO;
 use sockjade::sockjade_digest;
-ghost use Prim.Native.Nat.{_≤_};
-ghost use lib.ListN.{length};
 
 const COUNT: usize = 35;
 

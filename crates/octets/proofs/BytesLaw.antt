@@ -1,12 +1,10 @@
 -- Lists of bytes stay lists of bytes: a part, two put together, one with a part replaced, a byte repeated. Assumes nothing.
-use mathlib.Core.Path.{_≡_, refl, ap, sym, _∙_}
+use mathlib.Core.Path.{_≡_, ap, sym, _∙_}
 use mathlib.Core.List.{List, [], _∷_, _++_}
-use Prim.Native.Nat.{ℕ, zero, suc, _+_, _-_, _≤_, _<_}
+use Prim.Native.Nat.{ℕ, zero, suc, _+_, _-_, _<_}
 use native.Mathlib.Nat.{sub-zero, zero-sub, suc-sub-suc}
-use native.Mathlib.Omega.{arith}
 use lib.Dec.{lit<}
 use lib.ListN.{length, take, drop, getD, replicate, length-replicate, getD-replicate}
-use lib.Seq.{drop-nil}
 use Rattle.octets.specs.Part.{AreBytes, part, replaced, repeated}
 
 pub none-are : AreBytes []

@@ -1,15 +1,15 @@
 -- Laws of numbers in bytes, over the width: both round trips, the digits' number and size, two runs of digits put together, and what
 -- is read after a number is stored. Assumes nothing.
 use mathlib.Core.Path.{_≡_, refl, ap, ap₂, sym, subst, _∙_}
-use mathlib.Core.Logic.{_⊎_, inl, inr}
+use mathlib.Core.Logic.{_⊎_}
 use mathlib.Core.List.{List, [], _∷_, _++_}
 use Prim.Native.Nat.{ℕ, zero, suc, _+_, _*_, _/_, _%_, _^_, _≤_, _<_}
-use native.Mathlib.Nat.{zero-add, suc-add, mul-assoc, mul-comm, one-mul, mod-add-div, pow-suc, pow-zero, div-lt-iff-lt-mul, div-one, div-div-eq-div-mul}
+use native.Mathlib.Nat.{zero-add, suc-add, mul-assoc, mul-comm, one-mul, mod-add-div, pow-suc, div-lt-iff-lt-mul, div-one, div-div-eq-div-mul}
 use native.Mathlib.Numerals.{add-one, add-two, add-three}
 use native.Mathlib.Omega.{arith}
 use lib.Dec.{lit<}
 use lib.Arith.{mod-mul}
-use lib.ListN.{length, take, drop, getD, set}
+use lib.ListN.{length, take, getD, set}
 use lib.Seq.{drop-cons}
 use Rattle.octets.specs.Part.{AreBytes, part, replaced}
 use Rattle.octets.specs.Number.{number, bytes, numberAt, withNumber}

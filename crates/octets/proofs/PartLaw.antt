@@ -1,10 +1,10 @@
 -- Laws of a part of a list: its length, a part of a part, of two lists put together, two parts side by side. Assumes nothing.
-use mathlib.Core.Path.{_≡_, refl, ap, sym, _∙_}
+use mathlib.Core.Path.{_≡_, ap, sym, _∙_}
 use mathlib.Core.List.{List, [], _∷_, _++_}
 use Prim.Native.Nat.{ℕ, zero, suc, _+_, _-_, _≤_, _<_, min}
-use native.Mathlib.Nat.{add-zero, sub-zero, suc-sub-suc}
+use native.Mathlib.Nat.{sub-zero, suc-sub-suc}
 use native.Mathlib.Omega.{arith}
-use lib.ListN.{length, take, drop, getD, length-append, length-take, length-drop, take-append-drop}
+use lib.ListN.{length, take, drop, getD, length-take, length-drop}
 use lib.Seq.{take-append-le, drop-append-le, drop-append-add, take-at, drop-at, take-all, take-take, drop-drop, take-add, length-take-le, getD-take, getD-drop, take-nil, drop-nil}
 use Rattle.octets.specs.Part.{part}
 

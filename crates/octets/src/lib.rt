@@ -1,7 +1,7 @@
 // Bytes and little-endian numbers on lent slices. The contracts cite specs/: a part of a list, a list
 // with a part replaced, the digits of a number base 256.
 ghost use mathlib.Core.Path.{_≡_};
-ghost use Prim.Native.Nat.{ℕ, _+_, _≤_, _<_};
+ghost use Prim.Native.Nat.{_+_, _≤_, _<_};
 ghost use lib.ListN.{length};
 ghost use Rattle.octets.specs.Part.{part, replaced, repeated};
 ghost use Rattle.octets.specs.Part as P;

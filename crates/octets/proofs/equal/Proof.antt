@@ -3,7 +3,6 @@ use borrow.Author.Needs.{needs}
 use Prim.Native.Nat.{_≤_, _-_}
 use mathlib.Core.Path.{sym, ap}
 use lib.ListN.{length}
-use native.Mathlib.Omega.{arith}
 use Rattle.octets.proofs.EqualLaw.{Compared, compared-start, compared-step, compared-end, equal-no}
 use Rattle.octets.proofs.equal.Statement.{statement}
 use Rattle.octets.proofs.equal.Tie as tie

@@ -1,6 +1,5 @@
 -- `octets::load_u32` meets its contract: the sum that it makes is the number's first digit and the rest, four times. Assumes nothing.
 use borrow.Author.Needs.{needs}
-use native.Mathlib.Omega.{arith}
 use Rattle.octets.proofs.NumberLaw.{number-of-four}
 use Rattle.octets.proofs.load_u32.Statement.{statement}
 use Rattle.octets.proofs.load_u32.Tie as tie

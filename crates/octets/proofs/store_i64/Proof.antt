@@ -1,7 +1,6 @@
 -- `octets::store_i64` meets its contract, by those of the two functions that it calls. Assumes nothing.
 use borrow.Author.Needs.{needs}
 use mathlib.Core.Path.{ap, _∙_}
-use Prim.Native.Nat.{ℕ}
 use Rattle.octets.specs.Number.{withNumber}
 use Rattle.octets.specs.Signed.{twos}
 use Rattle.octets.proofs.SignedLaw.{signed-twos}

@@ -1,6 +1,5 @@
 -- `blake3::chunk::tail` meets its contract: what it copies over zeros is the block, padded. Assumes nothing.
 use borrow.Author.Needs.{needs}
-use native.Mathlib.Omega.{arith}
 use mathlib.Core.Path.{_∙_, refl}
 use Rattle.octets.specs.Part.{repeated}
 use Rattle.blake3.proofs.MessageLaw.{message-short}

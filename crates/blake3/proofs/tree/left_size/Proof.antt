@@ -2,7 +2,7 @@
 use borrow.Author.Needs.{needs}
 use native.Mathlib.Omega.{arith}
 use Prim.Native.Nat.{_-_}
-use Rattle.blake3.proofs.TreeLaw.{Doubled, doubled-start, doubled-step, doubled-end}
+use Rattle.blake3.proofs.LeftLaw.{Doubled, doubled-start, doubled-step, doubled-end}
 use Rattle.blake3.proofs.tree.left_size.Statement.{statement}
 use Rattle.blake3.proofs.tree.left_size.Tie as tie
 

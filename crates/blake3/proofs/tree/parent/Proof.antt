@@ -1,7 +1,6 @@
 -- `blake3::tree::parent` meets its contract: a parent is a chunk of one block. Assumes nothing.
 use borrow.Author.Needs.{needs}
 use mathlib.Core.Path.{refl}
-use Rattle.octets.specs.Part.{repeated}
 use Rattle.blake3.proofs.WordLaw.{words-small}
 use Rattle.blake3.proofs.TreeLaw.{parent-of}
 use Rattle.blake3.proofs.tree.parent.Statement.{statement}
