@@ -71,22 +71,22 @@ words-take (suc n) l =
     rw (head, tail, words-take n (drop 4 l))
 
 -- a whole block is not padded
-pub message-whole : (l : List ℕ) (at : ℕ) → at + 64 ≤ length l → B.words 16 (drop at l) ≡ B.message (part l at 64)
+pub message-whole : (l : List ℕ) (at : ℕ) → at + B.blockSize ≤ length l → B.words 16 (drop at l) ≡ B.message (part l at B.blockSize)
 unfolding B.message repeated part
 message-whole l at h =
     sym
-    (ap (λ (n : ℕ). B.words 16 (part l at 64 ++ repeated (64 - n) 0)) (part-length l at 64 h)
-    ∙ ap (B.words 16) (append-nil (part l at 64))
+    (ap (λ (n : ℕ). B.words 16 (part l at B.blockSize ++ repeated (B.blockSize - n) 0)) (part-length l at B.blockSize h)
+    ∙ ap (B.words 16) (append-nil (part l at B.blockSize))
     ∙ words-take 16 (drop at l))
 
 -- a short one, copied over zeros
-pub message-short : (l : List ℕ) (at n : ℕ) (b : List ℕ) → at ≤ length l → length l ≤ at + 64 → n ≡ length l - at
-    → b ≡ replaced (repeated 64 0) 0 (part l at n) → B.words 16 b ≡ B.message (part l at 64)
+pub message-short : (l : List ℕ) (at n : ℕ) (b : List ℕ) → at ≤ length l → length l ≤ at + B.blockSize → n ≡ length l - at
+    → b ≡ replaced (repeated B.blockSize 0) 0 (part l at n) → B.words 16 b ≡ B.message (part l at B.blockSize)
 unfolding B.message replaced
 message-short l at n b h k e q =
-    let same : part l at n ≡ part l at 64 = part-rest l at n (omega arith) ∙ sym (part-rest l at 64 k) in
+    let same : part l at n ≡ part l at B.blockSize = part-rest l at n (omega arith) ∙ sym (part-rest l at B.blockSize k) in
     ap (B.words 16)
     (q
-    ∙ ap (λ (x : List ℕ). x ++ drop (0 + length x) (repeated 64 0)) same
-    ∙ ap (λ (x : List ℕ). part l at 64 ++ x) (repeated-drop 64 0 (0 + length (part l at 64)))
-    ∙ ap (λ (i : ℕ). part l at 64 ++ repeated (64 - i) 0) (zero-add (length (part l at 64))))
+    ∙ ap (λ (x : List ℕ). x ++ drop (0 + length x) (repeated B.blockSize 0)) same
+    ∙ ap (λ (x : List ℕ). part l at B.blockSize ++ x) (repeated-drop B.blockSize 0 (0 + length (part l at B.blockSize)))
+    ∙ ap (λ (i : ℕ). part l at B.blockSize ++ repeated (B.blockSize - i) 0) (zero-add (length (part l at B.blockSize))))

@@ -13,8 +13,8 @@ use Rattle.blake3.proofs.TreeLaw.{tree-enough, subtree-small, subtree-l
 pub digest-is-bytes : DigestIsBytes
 unfolding DigestIsBytes B.digest
 digest-is-bytes s = (
-  bytesOf-length (B.subtree s 0 8) ∙ ap (λ (n : ℕ). 4 * n) (subtree-length s 0 8),
-  bytesOf-are (B.subtree s 0 8),
+  bytesOf-length (B.subtree s 0 B.ROOT) ∙ ap (λ (n : ℕ). 4 * n) (subtree-length s 0 B.ROOT),
+  bytesOf-are (B.subtree s 0 B.ROOT),
 )
 
 -- a power of two is above its exponent

@@ -18,6 +18,10 @@ chunkSize = 1024
 abbrev pub blockSize : ℕ
 blockSize = 64
 
+-- "and fills 32"
+abbrev pub digestSize : ℕ
+digestSize = 32
+
 -- table 3: the flags of a compression. A plain hash has these four
 abbrev pub CHUNK_START : ℕ
 CHUNK_START = 1

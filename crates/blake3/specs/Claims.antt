@@ -4,11 +4,11 @@ use mathlib.Core.Path.{_≡_}
 use mathlib.Core.List.{List}
 use lib.ListN.{length, take, drop}
 use Rattle.octets.specs.Part.{AreBytes}
-use Rattle.blake3.specs.Blake3.{chunkSize, chunk, leftSize, parent, tree, subtree, digest}
+use Rattle.blake3.specs.Blake3.{chunkSize, digestSize, chunk, leftSize, parent, tree, subtree, digest}
 
--- a digest is 32 bytes, whatever the input
+-- a digest is digestSize bytes, whatever the input
 unfoldable pub DigestIsBytes : Type 0
-DigestIsBytes = (s : List ℕ) → (length (digest s) ≡ 32) × AreBytes (digest s)
+DigestIsBytes = (s : List ℕ) → (length (digest s) ≡ digestSize) × AreBytes (digest s)
 
 -- of more than a chunk, the left side is a power of two of whole chunks, it leaves at least one byte on the right, and no larger
 -- such power does

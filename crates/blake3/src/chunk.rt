@@ -8,9 +8,11 @@ ghost use lib.ListN.{length, drop};
 ghost use Rattle.octets.specs.Part.{part};
 ghost use Rattle.blake3.specs.Blake3 as B;
 
-// The message words of the 64 bytes from at on.
+pub(crate) const BLOCK: usize = 64;
+
+// The message words of the whole block from at on.
 fn words(s: &[u8], at: usize) -> [u32; 16]
-    requires { ⌜ at + 64 ≤ length (now s) ⌝ }
+    requires { ⌜ at + B.blockSize ≤ length (now s) ⌝ }
     ensures { λ r. ⌜ r ≡ B.words 16 (drop at (now (s .entry))) ⌝ }
 {
     [
@@ -35,10 +37,10 @@ fn words(s: &[u8], at: usize) -> [u32; 16]
 
 // The message words of a short block, which starts at at.
 fn tail(s: &[u8], at: usize) -> [u32; 16]
-    requires { ⌜ (at ≤ length (now s)) × (length (now s) ≤ at + 64) ⌝ }
-    ensures { λ r. ⌜ r ≡ B.message (part (now (s .entry)) at 64) ⌝ }
+    requires { ⌜ (at ≤ length (now s)) × (length (now s) ≤ at + B.blockSize) ⌝ }
+    ensures { λ r. ⌜ r ≡ B.message (part (now (s .entry)) at B.blockSize) ⌝ }
 {
-    let mut b = [0u8; 64];
+    let mut b = [0u8; BLOCK];
     octets::copy(s, at, &mut b, 0, s.len() - at);
     words(&b, 0)
 }
@@ -46,9 +48,9 @@ fn tail(s: &[u8], at: usize) -> [u32; 16]
 // The message words of the block that starts at at.
 fn message(s: &[u8], at: usize) -> [u32; 16]
     requires { ⌜ at ≤ length (now s) ⌝ }
-    ensures { λ r. ⌜ r ≡ B.message (part (now (s .entry)) at 64) ⌝ }
+    ensures { λ r. ⌜ r ≡ B.message (part (now (s .entry)) at B.blockSize) ⌝ }
 {
-    if s.len() - at < 64 {
+    if s.len() - at < BLOCK {
         tail(s, at)
     } else {
         words(s, at)
@@ -59,14 +61,14 @@ fn message(s: &[u8], at: usize) -> [u32; 16]
 fn blocks(n: usize) -> usize
     ensures { λ r. ⌜ r ≡ B.blocks n ⌝ }
 {
-    if n == 0 { 1 } else { (n - 1) / 64 + 1 }
+    if n == 0 { 1 } else { (n - 1) / BLOCK + 1 }
 }
 
 // The length of a block from which n bytes are left.
 fn block_len(n: usize) -> u32
-    ensures { λ r. ⌜ r ≡ min 64 n ⌝ }
+    ensures { λ r. ⌜ r ≡ min B.blockSize n ⌝ }
 {
-    if n < 64 { n as u32 } else { 64 }
+    if n < BLOCK { n as u32 } else { BLOCK as u32 }
 }
 
 // The flags of block k of n.
@@ -86,14 +88,14 @@ fn flags(first: u32, last: u32, n: usize, k: usize) -> u32
 // The chaining value after all blocks of s, whose counter is t. It is the one place that compresses, a chunk's blocks
 // and a parent's: so the compression is compiled in place, and the chaining value stays in registers.
 pub(crate) fn chain(s: &[u8], t: u32, first: u32, last: u32) -> [u32; 8]
-    requires { ⌜ (length (now s) ≤ 1024) × (first < 16) × (last < 16) ⌝ }
+    requires { ⌜ (length (now s) ≤ B.chunkSize) × (first < 16) × (last < 16) ⌝ }
     ensures { λ r. ⌜ r ≡ B.chain (now (s .entry)) t first last (B.blocks (length (now (s .entry)))) ⌝ }
 {
     let mut h = IV;
     let n = blocks(s.len());
     let mut k = 0;
     while k < n {
-        let at = 64 * k;
+        let at = BLOCK * k;
         let next = compress(
             h,
             message(s, at),

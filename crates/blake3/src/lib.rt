@@ -11,7 +11,7 @@ const ROOT: u32 = 8;
 
 // Fills out with the digest of the input.
 pub fn digest(input: &[u8], out: &mut [u8])
-    requires { ⌜ (length (now input) < 2 ^ 32) × (length (now out) ≡ 32) ⌝ }
+    requires { ⌜ (length (now input) < 2 ^ 32) × (length (now out) ≡ B.digestSize) ⌝ }
     ensures { λ _. ⌜ now (out .exit) ≡ B.digest (now (input .entry)) ⌝ }
 {
     let h = tree::node(input, 0, ROOT);

@@ -1,4 +1,5 @@
 // The tree over the chunks.
+use crate::chunk::BLOCK;
 use crate::chunk::chain;
 use octets::store_u32;
 ghost use mathlib.Core.Path.{_≡_};
@@ -29,8 +30,8 @@ pub(crate) fn store_words(out: &mut [u8], at: usize, h: [u32; 8])
 
 // Of n bytes, how many go to the left.
 fn left_size(n: usize) -> usize
-    requires { ⌜ (1024 < n) × (n < 2 ^ 32) ⌝ }
-    ensures { λ r. ⌜ (r ≡ B.leftSize n) × (1024 ≤ r) × (r < n) ⌝ }
+    requires { ⌜ (B.chunkSize < n) × (n < 2 ^ 32) ⌝ }
+    ensures { λ r. ⌜ (r ≡ B.leftSize n) × (B.chunkSize ≤ r) × (r < n) ⌝ }
 {
     let mut l = CHUNK;
     while l + l < n {
@@ -44,7 +45,7 @@ fn parent(l: [u32; 8], r: [u32; 8], root: u32) -> [u32; 8]
     requires { ⌜ root ≤ 8 ⌝ }
     ensures { λ h. ⌜ h ≡ B.parent l r root ⌝ }
 {
-    let mut b = [0u8; 64];
+    let mut b = [0u8; BLOCK];
     store_words(&mut b, 0, l);
     store_words(&mut b, 32, r);
     chain(&b, 0, PARENT, root)
@@ -52,7 +53,7 @@ fn parent(l: [u32; 8], r: [u32; 8], root: u32) -> [u32; 8]
 
 // The output of the subtree over s, whose first chunk is number t of the input.
 pub(crate) fn node(s: &[u8], t: u32, root: u32) -> [u32; 8]
-    requires { ⌜ (t * 1024 + length (now s) < 2 ^ 32) × (root ≤ 8) ⌝ }
+    requires { ⌜ (t * B.chunkSize + length (now s) < 2 ^ 32) × (root ≤ 8) ⌝ }
     ensures { λ r. ⌜ r ≡ B.subtree (now (s .entry)) t root ⌝ }
 {
     if s.len() <= CHUNK {

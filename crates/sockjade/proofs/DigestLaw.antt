@@ -4,18 +4,18 @@ use mathlib.Core.Path.{_≡_, ap}
 use mathlib.Core.List.{List}
 use borrow.Author.Tests.{le-leb, lt-leb, eq-eqb, ne-eqb}
 use lib.ListN.{length}
-use Rattle.blake3.specs.Blake3.{digest}
-use Rattle.sockjade.specs.Digest.{outcome, fits, digestCall}
+use Rattle.blake3.specs.Blake3.{digest, digestSize}
+use Rattle.sockjade.specs.Digest.{longestInput, badLength, outcome, fits, digestCall}
 
-pub refused-input : (input out : List ℕ) → 65536 < length input → outcome 6 out ≡ digestCall input out
+pub refused-input : (input out : List ℕ) → longestInput < length input → outcome badLength out ≡ digestCall input out
 unfolding digestCall fits
-refused-input input out h = rw (digestCall, fits, lt-leb (length input) 65536 h)
+refused-input input out h = rw (digestCall, fits, lt-leb (length input) longestInput h)
 
-pub refused-room : (input out : List ℕ) → length input ≤ 65536 → (length out ≡ 32 → ⊥) → outcome 6 out ≡ digestCall input out
+pub refused-room : (input out : List ℕ) → length input ≤ longestInput → (length out ≡ digestSize → ⊥) → outcome badLength out ≡ digestCall input out
 unfolding digestCall fits
-refused-room input out h k = rw (digestCall, fits, le-leb (length input) 65536 h, ne-eqb (length out) 32 k)
+refused-room input out h k = rw (digestCall, fits, le-leb (length input) longestInput h, ne-eqb (length out) digestSize k)
 
-pub digested : (input out filled : List ℕ) → length input ≤ 65536 → length out ≡ 32 → filled ≡ digest input
+pub digested : (input out filled : List ℕ) → length input ≤ longestInput → length out ≡ digestSize → filled ≡ digest input
     → outcome 0 filled ≡ digestCall input out
 unfolding digestCall fits
-digested input out filled h k e = rw (digestCall, fits, le-leb (length input) 65536 h, eq-eqb (length out) 32 k) (ap (outcome 0) e)
+digested input out filled h k e = rw (digestCall, fits, le-leb (length input) longestInput h, eq-eqb (length out) digestSize k) (ap (outcome 0) e)

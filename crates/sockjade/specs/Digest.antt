@@ -5,7 +5,15 @@ use mathlib.Core.Bool.{Bool, true, false, _&&_}
 use mathlib.Core.List.{List}
 use lib.ListN.{length}
 use lib.Dec.{leb, eqb}
-use Rattle.blake3.specs.Blake3.{digest}
+use Rattle.blake3.specs.Blake3.{digest, digestSize}
+
+-- "takes 0 to 65,536 bytes"
+abbrev pub longestInput : ℕ
+longestInput = 65536
+
+-- the number that question 6 answers
+abbrev pub badLength : ℕ
+badLength = 6
 
 -- what a call leaves: the number answered, and what the room for the digest then holds
 pub record Outcome : Type 0 where
@@ -15,10 +23,10 @@ pub record Outcome : Type 0 where
 abbrev pub outcome : ℕ → List ℕ → Outcome
 outcome number out = record { number = number; out = out }
 
--- question 6: an input of 0 to 65,536 bytes, and room for 32
+-- question 6: an input that is not too long, and room for just the digest
 unfoldable pub fits : List ℕ → List ℕ → Bool
-fits input out = leb (length input) 65536 && eqb (length out) 32
+fits input out = leb (length input) longestInput && eqb (length out) digestSize
 
--- yes: 0, and the digest. No: 6, and the room is as it was
+-- yes: 0, and the digest. No: its number, and the room is as it was
 unfoldable pub digestCall : List ℕ → List ℕ → Outcome
-digestCall input out = elim (fits input out) [ true ↦ outcome 0 (digest input) | false ↦ outcome 6 out ]
+digestCall input out = elim (fits input out) [ true ↦ outcome 0 (digest input) | false ↦ outcome badLength out ]

@@ -15,7 +15,7 @@ returns c =
     let stored = c .before .before in
     let root = stored .before .before in
     let start = root .before .before .before in
-    let size : length (root .node .result) ≡ 8 = ap length (root .node .ensures) ∙ subtree-length (start .args .input .now) 0 8 in
+    let size : length (root .node .result) ≡ 8 = ap length (root .node .ensures) ∙ subtree-length (start .args .input .now) 0 B.ROOT in
     stored-all _ _ _ (omega (arith, size, start .pre .1)) (stored .store-words .ensures) ∙ ap B.bytesOf (root .node .ensures)
 
 pub digest-spec : {M : Type 1} → statement M

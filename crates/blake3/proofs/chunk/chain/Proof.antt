@@ -19,7 +19,7 @@ loop-holds : tie.Need-loop-holds Inv-loop μ-loop
 unfolding B.chain
 loop-holds c = (search needs, c .blocks2 .ensures, refl)
 
-within : (c : tie.In-loop Inv-loop μ-loop) → 64 * c .before .loop .k ≤ length (c .before .before .before .before .args .s .now)
+within : (c : tie.In-loop Inv-loop μ-loop) → B.blockSize * c .before .loop .k ≤ length (c .before .before .before .before .args .s .now)
 within c =
     let loop = c .before in
     block-within _ _ (omega (arith, c .loop-test .taken, loop .loop .inv .1))
