@@ -8,7 +8,7 @@ use lib.ListN.{length, take, drop}
 use lib.Seq.{drop-drop, take-take}
 use Rattle.octets.specs.Part.{part, replaced, repeated}
 use Rattle.octets.specs.Number.{numberAt}
-use Rattle.octets.proofs.BytesLaw.{repeated-drop}
+use Rattle.octets.proofs.RepeatedLaw.{repeated-drop}
 use Rattle.octets.proofs.PartLaw.{part-length, part-rest, drop-take}
 use Rattle.blake3.specs.Blake3 as B
 

@@ -1,14 +1,15 @@
 -- The bytes of words: their number, that they are bytes, the words again, and a loop that stores them. Assumes nothing.
-use Prim.Native.Nat.{ℕ, suc, _+_, _*_, _^_, _≤_, _<_}
+use Prim.Native.Nat.{ℕ, _+_, _*_, _^_, _≤_, _<_}
 use mathlib.Core.Path.{_≡_, refl, ap, ap₂, sym, _∙_}
 use mathlib.Core.List.{List, [], _∷_, _++_, append-nil, append-assoc}
 use native.Mathlib.Numerals.{add-one}
 use native.Mathlib.Omega.{arith}
+use lib.Dec.{lit<}
 use lib.ListN.{length, take, getD, length-append}
 use lib.Seq.{take-at, drop-at, take-suc, take-all, length-take-le}
-use Rattle.octets.specs.Part.{AreBytes, replaced}
+use Rattle.octets.specs.Part.{AreBytes, Below, replaced}
 use Rattle.octets.specs.Number.{number, bytes, withNumber}
-use Rattle.octets.proofs.BytesLaw.{none-are, append-are}
+use Rattle.octets.proofs.BelowLaw.{below-none, below-append, below-head, below-tail}
 use Rattle.octets.proofs.NumberLaw.{bytes-length, bytes-are, number-bytes}
 use Rattle.octets.proofs.ReplacedLaw.{replaced-append, replaced-none, replaced-all}
 use Rattle.blake3.specs.Blake3 as B
@@ -20,8 +21,8 @@ bytesOf-length (x ∷ ws) = omega (arith, length-append (bytes 4 x) (B.bytesOf w
 
 pub bytesOf-are : (ws : List ℕ) → AreBytes (B.bytesOf ws)
 unfolding B.bytesOf
-bytesOf-are [] = none-are
-bytesOf-are (x ∷ ws) = append-are (bytes 4 x) (B.bytesOf ws) (bytes-are 4 x) (bytesOf-are ws)
+bytesOf-are [] = below-none 256 (lit< tt)
+bytesOf-are (x ∷ ws) = below-append 256 (bytes 4 x) (B.bytesOf ws) (bytes-are 4 x) (bytesOf-are ws)
 
 pub bytesOf-append : (a b : List ℕ) → B.bytesOf (a ++ b) ≡ B.bytesOf a ++ B.bytesOf b
 unfolding B.bytesOf
@@ -34,13 +35,13 @@ unfolding B.bytesOf
 bytesOf-one x = append-nil (bytes 4 x)
 
 -- words, bytes, words
-pub words-bytesOf : (ws : List ℕ) → ((i : ℕ) → getD ws i 0 < 2 ^ 32) → B.words (length ws) (B.bytesOf ws) ≡ ws
+pub words-bytesOf : (ws : List ℕ) → Below (2 ^ 32) ws → B.words (length ws) (B.bytesOf ws) ≡ ws
 unfolding B.words B.bytesOf
 words-bytesOf [] h = refl
 words-bytesOf (x ∷ ws) h =
     ap₂ (λ (y : ℕ) (r : List ℕ). y ∷ r)
-    (ap number (take-at (bytes 4 x) (B.bytesOf ws) 4 (bytes-length 4 x)) ∙ number-bytes 4 x (h 0))
-    (ap (B.words (length ws)) (drop-at (bytes 4 x) (B.bytesOf ws) 4 (bytes-length 4 x)) ∙ words-bytesOf ws (λ i. h (suc i)))
+    (ap number (take-at (bytes 4 x) (B.bytesOf ws) 4 (bytes-length 4 x)) ∙ number-bytes 4 x (below-head (2 ^ 32) x ws h))
+    (ap (B.words (length ws)) (drop-at (bytes 4 x) (B.bytesOf ws) 4 (bytes-length 4 x)) ∙ words-bytesOf ws (below-tail (2 ^ 32) x ws h))
 
 -- a loop that stores words one by one: the first i stand from at on
 pub record Stored (l : List ℕ) (at : ℕ) (ws : List ℕ) (i : ℕ) (m : List ℕ) : Type 0 where

@@ -4,14 +4,14 @@ use mathlib.Core.Path.{_≡_, refl, ap, ap₂, sym, _∙_}
 use mathlib.Core.List.{List, _++_, append-nil}
 use native.Mathlib.Omega.{arith}
 use borrow.Author.Tests.{le-leb, lt-leb}
-use lib.ListN.{length, getD, take, drop, length-take, length-drop, length-append}
+use lib.ListN.{length, take, drop, length-take, length-drop, length-append}
 use lib.Seq.{take-all}
-use Rattle.octets.specs.Part.{part, replaced, repeated}
+use Rattle.octets.specs.Part.{Below, part, replaced, repeated}
+use Rattle.octets.proofs.BelowLaw.{below-append}
 use Rattle.octets.proofs.PartLaw.{part-all}
 use Rattle.blake3_compress.proofs.CompressLaw.{compress-length}
 use Rattle.blake3.specs.Blake3 as B
 use Rattle.blake3.proofs.LeftLaw.{split, left-ge, left-lt}
-use Rattle.blake3.proofs.WordLaw.{append-small}
 use Rattle.blake3.proofs.OutputLaw.{bytesOf-length, words-bytesOf, stored-two}
 
 -- ---- levels
@@ -79,7 +79,7 @@ subtree-of s t root l a b r h e pa pb q =
 
 -- a parent is a chunk of one block: the 64 bytes of its two chaining values
 pub parent-of : (z x y l r h : List ℕ) (root : ℕ) → length z ≡ B.blockSize → length l ≡ 8 → length r ≡ 8
-    → ((i : ℕ) → getD l i 0 < 2 ^ 32) → ((i : ℕ) → getD r i 0 < 2 ^ 32)
+    → Below (2 ^ 32) l → Below (2 ^ 32) r
     → x ≡ replaced z 0 (B.bytesOf l) → y ≡ replaced x 32 (B.bytesOf r)
     → h ≡ B.chain y 0 B.PARENT root (B.blocks (length y)) → h ≡ B.parent l r root
 unfolding B.parent B.chain B.blocks B.block B.message B.flags repeated
@@ -91,7 +91,7 @@ parent-of z x y l r h root hz hl hr sl sr ex ey e =
     let size : length y ≡ B.blockSize = ap length is ∙ omega (arith, bytesOf-length (l ++ r)) in
     let whole : part y 0 B.blockSize ≡ y = part-all y B.blockSize (omega arith) in
     let read : B.words 16 y ≡ l ++ r =
-    ap₂ B.words (sym joined) is ∙ words-bytesOf (l ++ r) (append-small (2 ^ 32) l r sl sr) in
+    ap₂ B.words (sym joined) is ∙ words-bytesOf (l ++ r) (below-append (2 ^ 32) l r sl sr) in
     e
     ∙ rw (size, whole, size, append-nil y, read)
 

@@ -1,5 +1,6 @@
 -- The laws that proofs here and in the crates above cite.
-pub mod BytesLaw
+pub mod BelowLaw
+pub mod RepeatedLaw
 pub mod PartLaw
 pub mod ReplacedLaw
 pub mod NumberLaw

@@ -13,7 +13,7 @@ use lib.ListN.{length, take, getD, set}
 use lib.Seq.{drop-cons}
 use Rattle.octets.specs.Part.{AreBytes, part, replaced}
 use Rattle.octets.specs.Number.{number, bytes, numberAt, withNumber}
-use Rattle.octets.proofs.BytesLaw.{none-are, cons-are, head-is, tail-are, part-are, replaced-are}
+use Rattle.octets.proofs.BelowLaw.{below-none, below-cons, below-head, below-tail, below-part, below-replaced}
 use Rattle.octets.proofs.PartLaw.{part-length, part-add}
 use Rattle.octets.proofs.ReplacedLaw.{replaced-length, replaced-sets, replaced-append, replaced-own, part-same, part-other}
 
@@ -24,8 +24,8 @@ bytes-length (suc k) n = ap suc (bytes-length k (n / 256))
 
 pub bytes-are : (k n : ℕ) → AreBytes (bytes k n)
 unfolding bytes
-bytes-are zero n = none-are
-bytes-are (suc k) n = cons-are (n % 256) (bytes k (n / 256)) (omega arith) (bytes-are k (n / 256))
+bytes-are zero n = below-none 256 (lit< tt)
+bytes-are (suc k) n = below-cons 256 (n % 256) (bytes k (n / 256)) (omega arith) (bytes-are k (n / 256))
 
 -- number, bytes, number: for a number that fits
 pub number-bytes : (k n : ℕ) → n < 256 ^ k → number (bytes k n) ≡ n
@@ -40,15 +40,15 @@ pub bytes-number : (l : List ℕ) → AreBytes l → bytes (length l) (number l)
 unfolding number bytes
 bytes-number [] h = refl
 bytes-number (x ∷ l) h =
-    let small : x < 256 = head-is x l h in
+    let small : x < 256 = below-head 256 x l h in
     let digit : (x + 256 * number l) % 256 ≡ x = omega arith in
     let rest : (x + 256 * number l) / 256 ≡ number l = omega arith in
-    ap₂ (λ (d r : ℕ). d ∷ bytes (length l) r) digit rest ∙ ap (λ (r : List ℕ). x ∷ r) (bytes-number l (tail-are x l h))
+    ap₂ (λ (d r : ℕ). d ∷ bytes (length l) r) digit rest ∙ ap (λ (r : List ℕ). x ∷ r) (bytes-number l (below-tail 256 x l h))
 
 pub number-small : (l : List ℕ) → AreBytes l → number l < 256 ^ length l
 unfolding number
 number-small [] h = lit< tt
-number-small (x ∷ l) h = omega (arith, head-is x l h, number-small l (tail-are x l h), pow-suc 256 (length l))
+number-small (x ∷ l) h = omega (arith, below-head 256 x l h, number-small l (below-tail 256 x l h), pow-suc 256 (length l))
 
 -- two runs of digits
 pub number-append : (a b : List ℕ) → number (a ++ b) ≡ number a + 256 ^ length a * number b
@@ -91,12 +91,12 @@ withNumber-length l at k n h = replaced-length l at (bytes k n) (omega (arith, b
 
 pub withNumber-are : (l : List ℕ) (at k n : ℕ) → AreBytes l → AreBytes (withNumber l at k n)
 unfolding withNumber
-withNumber-are l at k n h = replaced-are l at (bytes k n) h (bytes-are k n)
+withNumber-are l at k n h = below-replaced 256 l at (bytes k n) h (bytes-are k n)
 
 pub numberAt-small : (l : List ℕ) (at k : ℕ) → AreBytes l → at + k ≤ length l → numberAt l at k < 256 ^ k
 unfolding numberAt
 numberAt-small l at k h e =
-    subst (λ (n : ℕ). number (part l at k) < 256 ^ n) (part-length l at k e) (number-small (part l at k) (part-are l at k h))
+    subst (λ (n : ℕ). number (part l at k) < 256 ^ n) (part-length l at k e) (number-small (part l at k) (below-part 256 l at k h))
 
 -- what is read at the place of a store, and at another
 pub numberAt-same : (l : List ℕ) (at k n : ℕ) → at + k ≤ length l → n < 256 ^ k → numberAt (withNumber l at k n) at k ≡ n
@@ -116,7 +116,7 @@ pub withNumber-own : (l : List ℕ) (at k : ℕ) → AreBytes l → at + k ≤ l
 unfolding numberAt withNumber
 withNumber-own l at k h e =
     ap (λ (r : List ℕ). replaced l at r)
-    (ap (λ (n : ℕ). bytes n (number (part l at k))) (sym (part-length l at k e)) ∙ bytes-number (part l at k) (part-are l at k h))
+    (ap (λ (n : ℕ). bytes n (number (part l at k))) (sym (part-length l at k e)) ∙ bytes-number (part l at k) (below-part 256 l at k h))
     ∙ replaced-own l at k e
 
 -- ---- a number of j + k bytes, in two

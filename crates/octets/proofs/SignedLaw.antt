@@ -30,25 +30,25 @@ flipped n h =
     ap (toZ w64) e ∙ toZ-pos w64 n h
 
 -- what is known of a negative number, and of one that is not
-pub record Below (z : ℤ) : Type 0 where
+pub record Negative (z : ℤ) : Type 0 where
   pub casts : T (nonNeg (toZ w64 (18446744073709551615 - ofZ w64 z))) × Fits w64 (natAbs (toZ w64 (18446744073709551615 - ofZ w64 z)))
   pub back : 18446744073709551615 - natAbs (toZ w64 (18446744073709551615 - ofZ w64 z)) ≡ twos z
 
-pub below : (z : ℤ) → SFits w64 z → ltZ (toZ w64 (ofZ w64 z)) (pos 0) ≡ true → Below z
-below (pos n) h t = absurd (omega (arith, ltb-true n 0 (rw (toZ-pos w64 n (h .sfits)) at t)))
-below (negsuc n) h t =
+pub negative : (z : ℤ) → SFits w64 z → ltZ (toZ w64 (ofZ w64 z)) (pos 0) ≡ true → Negative z
+negative (pos n) h t = absurd (omega (arith, ltb-true n 0 (rw (toZ-pos w64 n (h .sfits)) at t)))
+negative (negsuc n) h t =
     let small : n < 2 ^ 63 = h .sfits in
     record {
       casts = rw (flipped n small) (tt, record { fits = omega arith });
       back = rw (flipped n small) (omega arith);
     }
 
-pub record NotBelow (z : ℤ) : Type 0 where
+pub record NotNegative (z : ℤ) : Type 0 where
   pub casts : T (nonNeg (toZ w64 (ofZ w64 z))) × Fits w64 (natAbs (toZ w64 (ofZ w64 z)))
   pub back : natAbs (toZ w64 (ofZ w64 z)) ≡ twos z
 
-pub not-below : (z : ℤ) → SFits w64 z → ltZ (toZ w64 (ofZ w64 z)) (pos 0) ≡ false → NotBelow z
-not-below (pos n) h t =
+pub not-negative : (z : ℤ) → SFits w64 z → ltZ (toZ w64 (ofZ w64 z)) (pos 0) ≡ false → NotNegative z
+not-negative (pos n) h t =
     let small : n < 2 ^ 63 = h .sfits in
     record { casts = rw (toZ-pos w64 n small) (tt, record { fits = omega arith }); back = rw (toZ-pos w64 n small) }
-not-below (negsuc n) h t = absurd (false≢true (sym (rw (toZ-ofZ w64 (negsuc n) h) at t)))
+not-negative (negsuc n) h t = absurd (false≢true (sym (rw (toZ-ofZ w64 (negsuc n) h) at t)))

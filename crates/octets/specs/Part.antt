@@ -6,9 +6,13 @@ use mathlib.Core.List.{List, [], _∷_, _++_}
 use lib.ListN.{length, take, drop, getD, replicate}
 use lib.Dec.{eqb}
 
--- every element is a byte: a number below 256
-unfoldable pub AreBytes : List ℕ → Type 0
-AreBytes l = (i : ℕ) → getD l i 0 < 256
+-- every element is below n
+unfoldable pub Below : ℕ → List ℕ → Type 0
+Below n l = (i : ℕ) → getD l i 0 < n
+
+-- every element is a byte
+abbrev pub AreBytes : List ℕ → Type 0
+AreBytes l = Below 256 l
 
 -- the n elements of l from place at on
 unfoldable pub part : List ℕ → ℕ → ℕ → List ℕ

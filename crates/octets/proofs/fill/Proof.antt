@@ -4,7 +4,7 @@ use native.Mathlib.Omega.{arith}
 use Prim.Native.Nat.{_≤_, _-_}
 use mathlib.Core.Path.{sym}
 use Rattle.octets.specs.Part.{repeated}
-use Rattle.octets.proofs.BytesLaw.{repeated-length, repeated-at}
+use Rattle.octets.proofs.RepeatedLaw.{repeated-length, repeated-at}
 use Rattle.octets.proofs.ReplacedLaw.{Written, written-start, written-step, written-end}
 use Rattle.octets.proofs.fill.Statement.{statement}
 use Rattle.octets.proofs.fill.Tie as tie
