@@ -35,37 +35,21 @@ fn official_source() -> Option<PathBuf> {
     Some(Path::new(file).parent()?.to_path_buf())
 }
 
-/// One object for each build, in which only the function `official_NAME` can be seen from outside.
+/// One object for each build, in one archive.
 fn build_official(source: &Path, wrapper: &Path, out: &Path) -> bool {
     let mut whole = Vec::new();
     for (name, parts, words) in BUILDS {
+        let Some(objects) = compile(name, parts, words, source, out) else {
+            return false;
+        };
         let entry = format!("official_{name}");
-        let mut objects = Vec::new();
-        let common = ["blake3", "blake3_dispatch", "blake3_portable"].map(String::from);
-        let special = parts.iter().map(|p| format!("blake3_{p}"));
-        for file in common.into_iter().chain(special) {
-            let object = out.join(format!("{name}_{file}.o"));
-            let mut gcc = gcc(words);
-            match file.as_str() {
-                "blake3_sse2" => gcc.arg("-msse2"),
-                "blake3_sse41" => gcc.arg("-msse4.1"),
-                "blake3_avx2" => gcc.arg("-mavx2"),
-                "blake3_avx512" => gcc.args(["-mavx512f", "-mavx512vl"]),
-                _ => &mut gcc,
-            };
-            if !ran(gcc.arg("-o").arg(&object).arg(source.join(file + ".c"))) {
-                return false;
-            }
-            objects.push(object);
-        }
         let shim = out.join(format!("{name}_wrapper.o"));
         let named = format!("-DENTRY={entry}");
-        if !ran(gcc(words).arg(named).arg("-I").arg(source).arg("-o").arg(&shim).arg(wrapper)) {
-            return false;
-        }
         let joined = out.join(format!("{entry}.o"));
         let keep = format!("--keep-global-symbol={entry}");
-        if !ran(Command::new("ld").arg("-r").arg("-o").arg(&joined).args(&objects).arg(&shim))
+        // Only the function `official_NAME` can be seen from outside, so that the builds do not clash.
+        if !ran(gcc(words).arg(named).arg("-I").arg(source).arg("-o").arg(&shim).arg(wrapper))
+            || !ran(Command::new("ld").arg("-r").arg("-o").arg(&joined).args(&objects).arg(&shim))
             || !ran(Command::new("objcopy").arg(keep).arg(&joined))
         {
             return false;
@@ -75,6 +59,29 @@ fn build_official(source: &Path, wrapper: &Path, out: &Path) -> bool {
     let archive = out.join("libofficial.a");
     let _ = std::fs::remove_file(&archive);
     ran(Command::new("ar").arg("crs").arg(archive).args(&whole))
+}
+
+/// The objects of one build.
+fn compile(name: &str, parts: &[&str], words: &[&str], source: &Path, out: &Path) -> Option<Vec<PathBuf>> {
+    let common = ["blake3", "blake3_dispatch", "blake3_portable"].map(String::from);
+    let special = parts.iter().map(|p| format!("blake3_{p}"));
+    let mut objects = Vec::new();
+    for file in common.into_iter().chain(special) {
+        let object = out.join(format!("{name}_{file}.o"));
+        let mut gcc = gcc(words);
+        match file.as_str() {
+            "blake3_sse2" => gcc.arg("-msse2"),
+            "blake3_sse41" => gcc.arg("-msse4.1"),
+            "blake3_avx2" => gcc.arg("-mavx2"),
+            "blake3_avx512" => gcc.args(["-mavx512f", "-mavx512vl"]),
+            _ => &mut gcc,
+        };
+        if !ran(gcc.arg("-o").arg(&object).arg(source.join(file + ".c"))) {
+            return None;
+        }
+        objects.push(object);
+    }
+    Some(objects)
 }
 
 fn gcc(words: &[&str]) -> Command {

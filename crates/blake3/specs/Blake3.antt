@@ -1,5 +1,6 @@
 -- BLAKE3, the plain hash of 32 bytes, after sections 2.1 and 2.3 to 2.6 of the paper "BLAKE3: one function, fast everywhere", over
--- lists of natural numbers. The compression function is that of blake3_compress. Assumes nothing: these are definitions.
+-- lists of natural numbers. The compression function is that of blake3_compress. What stands in quotes is
+-- document 01's. Assumes nothing: these are definitions.
 use Prim.Native.Nat.{ℕ, zero, suc, _+_, _-_, _*_, _/_, _^_}
 use mathlib.Core.Bool.{Bool, true, false}
 use mathlib.Core.List.{List, [], _∷_, _++_}
@@ -22,7 +23,7 @@ blockSize = 64
 abbrev pub digestSize : ℕ
 digestSize = 32
 
--- table 3: the flags of a compression. A plain hash has these four
+-- the flags of a compression. A plain hash has these four
 abbrev pub CHUNK_START : ℕ
 CHUNK_START = 1
 

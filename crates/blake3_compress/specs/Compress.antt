@@ -1,5 +1,6 @@
 -- BLAKE3's compression function, after section 2.2 of the paper "BLAKE3: one function, fast everywhere", over lists of natural
--- numbers: a word is a number below 2 ^ 32, and the state is sixteen words, as four rows of four. Assumes nothing: these are definitions.
+-- numbers: a word is a number below 2 ^ 32, and the state is "sixteen words taken as four rows of four". What stands in quotes is
+-- document 01's. Assumes nothing: these are definitions.
 use Prim.Native.Nat.{ℕ, zero, suc, _+_, _-_, _*_, _/_, _%_, _^_}
 use mathlib.Core.List.{List, [], _∷_, map}
 use lib.ListN.{getD}
@@ -25,19 +26,19 @@ cell s i j = word (getD s i []) j
 
 -- ---- constants
 
--- table 1: the initial value, which the plain hash has for its key
+-- the initial value, which the plain hash has for its key
 abbrev pub IV : List ℕ
 IV =
     0x6A09E667 ∷ 0xBB67AE85 ∷ 0x3C6EF372 ∷ 0xA54FF53A ∷ 0x510E527F ∷ 0x9B05688C ∷ 0x1F83D9AB ∷ 0x5BE0CD19 ∷ []
 
--- table 2: which message word stands where in the next round
+-- "the message words are permuted by 2 6 3 10 7 0 4 13 1 11 12 5 9 14 15 8": which word stands where in the next round
 abbrev pub permutation : List ℕ
 permutation =
     2 ∷ 6 ∷ 3 ∷ 10 ∷ 7 ∷ 0 ∷ 4 ∷ 13 ∷ 1 ∷ 11 ∷ 12 ∷ 5 ∷ 9 ∷ 14 ∷ 15 ∷ 8 ∷ []
 
 -- ---- a round
 
--- the mixing function: four words of the state and two of the message give four words; rotations right are 16, 12, 8, 7
+-- the mixing function: four words of the state and two of the message give four words. "Rotations right are 16, 12, 8, 7"
 unfoldable pub G : ℕ → ℕ → ℕ → ℕ → ℕ → ℕ → List ℕ
 G a b c d x y =
     let a1 = add32 (add32 a b) x in
@@ -108,8 +109,8 @@ rounds (suc n) s m = rounds n (round s m) (permuted m)
 
 -- ---- the compression function
 
--- the state that the rounds start from: the chaining value h, half the initial value, the counter t in two words, the block's
--- length b, the flags d
+-- the state that the rounds start from: the chaining value h, half the initial value, the counter t (below 2 ^ 64) in two words,
+-- the block's length b, the flags d
 unfoldable pub initial : List ℕ → ℕ → ℕ → ℕ → List (List ℕ)
 initial h t b d =
     (word h 0 ∷ word h 1 ∷ word h 2 ∷ word h 3 ∷ [])
@@ -131,7 +132,7 @@ output s =
     ∷ bitXor (cell s 1 3) (cell s 3 3)
     ∷ []
 
--- the compression of the message words m of a block: 7 rounds
+-- the compression of the message words m of a block, "mixed for 7 rounds"
 unfoldable pub compress : List ℕ → List ℕ → ℕ → ℕ → ℕ → List ℕ
 compress h m t b d = output (rounds 7 (initial h t b d) m)
 
