@@ -1,0 +1,150 @@
+-- Laws of pages: an entry after a store at the same place and at another, lengths, bytes, the blank page. Assumes nothing.
+use mathlib.Core.Path.{_≡_, refl, ap, ap₂, sym, _∙_}
+use mathlib.Core.Logic.{_⊎_, inl, inr}
+use mathlib.Core.List.{List, [], _++_, append-assoc, append-nil}
+use Prim.Native.Nat.{ℕ, zero, suc, _+_, _*_, _≤_, _<_}
+use native.Mathlib.Nat.{add-zero}
+use native.Mathlib.Numerals.{add-one}
+use native.Mathlib.Omega.{arith}
+use lib.ListN.{length, length-append}
+use Rattle.octets.specs.Part.{AreBytes, part, replaced}
+use Rattle.octets.specs.Number.{number, numberAt, withNumber, bytes}
+use Rattle.octets.proofs.BelowLaw.{below-none, below-append, below-part, below-replaced}
+use Rattle.octets.proofs.PartLaw.{part-length, part-part, part-first, part-left, part-right}
+use Rattle.octets.proofs.NumberLaw.{bytes-length}
+use Rattle.octets.proofs.ReplacedLaw.{replaced-length, part-same, part-other, replaced-append, replaced-all, replaced-none, replaced-own}
+use Rattle.lockpage.specs.declared.Entry.{Entry}
+use Rattle.lockpage.specs.Size.{wordSize, entrySize, entriesPerPage, pageSize}
+use Rattle.lockpage.specs.Entry.{entry, entryBytes, entryOf, EntryFits}
+use Rattle.lockpage.specs.Page.{entryAt, withEntry, entries, blankEntry, blankPage}
+use Rattle.lockpage.proofs.EntryLaw.{entryBytes-length, entryBytes-are, entryOf-bytes, bytes-entryOf, entryOf-fits}
+
+-- an entry's end in a page
+entry-end : (p : List ℕ) (i : ℕ) → length p ≡ pageSize → i < entriesPerPage → entrySize * i + entrySize ≤ length p
+entry-end p i l h = omega arith
+
+module _ (p : List ℕ) (i : ℕ) (e : Entry) (room : entrySize * i + entrySize ≤ length p) where
+  pub withEntry-length : length (withEntry p i e) ≡ length p
+  unfolding withEntry
+  withEntry-length = replaced-length p (entrySize * i) (entryBytes e) (omega (arith, entryBytes-length e))
+
+  pub withEntry-are : AreBytes p → AreBytes (withEntry p i e)
+  unfolding withEntry
+  withEntry-are b = below-replaced 256 p (entrySize * i) (entryBytes e) b (entryBytes-are e)
+
+  pub entryAt-same : EntryFits e → entryAt (withEntry p i e) i ≡ e
+  unfolding entryAt withEntry
+  entryAt-same f =
+      ap entryOf (part-same p (entrySize * i) (entryBytes e) entrySize (entryBytes-length e) room) ∙ entryOf-bytes e f
+
+  pub entryAt-other : (j : ℕ) → (j < i) ⊎ (i < j) → entryAt (withEntry p i e) j ≡ entryAt p j
+  unfolding entryAt withEntry
+  entryAt-other j (inl k) =
+      ap entryOf
+      (part-other p (entrySize * i) (entryBytes e) (entrySize * j) entrySize (omega (arith, entryBytes-length e)) (inl (omega arith)))
+  entryAt-other j (inr k) =
+      ap entryOf
+      (part-other p (entrySize * i) (entryBytes e) (entrySize * j) entrySize (omega (arith, entryBytes-length e))
+      (inr (omega (arith, entryBytes-length e))))
+
+module _ (p : List ℕ) (i : ℕ) (b : AreBytes p) (room : entrySize * i + entrySize ≤ length p) where
+  -- the eight bytes of entry i
+  pub entryAt-bytes : entryBytes (entryAt p i) ≡ part p (entrySize * i) entrySize
+  unfolding entryAt
+  entryAt-bytes = bytes-entryOf (part p (entrySize * i) entrySize) (below-part 256 p (entrySize * i) entrySize b) (part-length p (entrySize * i) entrySize room)
+
+  pub entryAt-fits : EntryFits (entryAt p i)
+  unfolding entryAt
+  entryAt-fits = entryOf-fits (part p (entrySize * i) entrySize) (below-part 256 p (entrySize * i) entrySize b) (part-length p (entrySize * i) entrySize room)
+
+  -- an entry read and written back
+  pub withEntry-own : withEntry p i (entryAt p i) ≡ p
+  unfolding withEntry
+  withEntry-own = ap (replaced p (entrySize * i)) entryAt-bytes ∙ replaced-own p (entrySize * i) entrySize room
+
+-- ---- loads and stores, as the code makes them
+
+pub entry-loaded : (p : List ℕ) (i w s : ℕ) → w ≡ numberAt p (entrySize * i) wordSize → s ≡ numberAt p (entrySize * i + wordSize) wordSize
+    → entry w s ≡ entryAt p i
+unfolding entryAt entryOf numberAt
+entry-loaded p i w s ew es =
+    ap₂ entry
+    (ew
+    ∙ ap (λ (at : ℕ). number (part p at wordSize)) (sym (add-zero (entrySize * i)))
+    ∙ ap number (sym (part-part p (entrySize * i) entrySize 0 wordSize (omega arith))))
+    (es ∙ ap number (sym (part-part p (entrySize * i) entrySize wordSize wordSize (omega arith))))
+
+pub entry-stored : (p q r : List ℕ) (i : ℕ) (e : Entry) → entrySize * i + entrySize ≤ length p
+    → q ≡ withNumber p (entrySize * i) wordSize (e .word) → r ≡ withNumber q (entrySize * i + wordSize) wordSize (e .stamp)
+    → r ≡ withEntry p i e
+unfolding withEntry entryBytes withNumber
+entry-stored p q r i e h eq er =
+    let w : List ℕ = bytes wordSize (e .word) in
+    let s : List ℕ = bytes wordSize (e .stamp) in
+    let at : ℕ = entrySize * i in
+    er
+    ∙ ap₂ (λ (x : List ℕ) (n : ℕ). replaced x (at + n) s) eq (sym (bytes-length wordSize (e .word)))
+    ∙ replaced-append p at w s (omega (arith, bytes-length wordSize (e .word), bytes-length wordSize (e .stamp)))
+
+-- ---- n times the same entry
+
+pub entries-length : (n : ℕ) (e : Entry) → length (entries n e) ≡ entrySize * n
+unfolding entries
+entries-length zero e = refl
+entries-length (suc n) e = length-append (entryBytes e) (entries n e) ∙ omega (arith, entryBytes-length e, entries-length n e)
+
+entries-are : (n : ℕ) (e : Entry) → AreBytes (entries n e)
+unfolding entries
+entries-are zero e = below-none 256 (omega arith)
+entries-are (suc n) e = below-append 256 (entryBytes e) (entries n e) (entryBytes-are e) (entries-are n e)
+
+-- one more at the end
+entries-more : (n : ℕ) (e : Entry) → entries n e ++ entryBytes e ≡ entries (suc n) e
+unfolding entries
+entries-more zero e = sym (append-nil (entryBytes e))
+entries-more (suc n) e = append-assoc (entryBytes e) (entries n e) (entryBytes e) ∙ ap (λ (l : List ℕ). entryBytes e ++ l) (entries-more n e)
+
+entries-at : (n : ℕ) (e : Entry) (i : ℕ) → i < n → part (entries n e) (entrySize * i) entrySize ≡ entryBytes e
+unfolding entries
+entries-at zero e i h = absurd (omega arith)
+entries-at (suc n) e zero h = part-first (entryBytes e) (entries n e) entrySize (entryBytes-length e)
+entries-at (suc n) e (suc i) h =
+    let place : entrySize * suc i ≡ length (entryBytes e) + entrySize * i = omega (arith, entryBytes-length e) in
+    ap (λ (at : ℕ). part (entryBytes e ++ entries n e) at entrySize) place
+    ∙ part-right (entryBytes e) (entries n e) (entrySize * i) entrySize
+    ∙ entries-at n e i (omega arith)
+
+pub blankPage-length : length blankPage ≡ pageSize
+unfolding blankPage
+blankPage-length = entries-length entriesPerPage blankEntry
+
+pub blankPage-are : AreBytes blankPage
+unfolding blankPage
+blankPage-are = entries-are entriesPerPage blankEntry
+
+pub blankPage-at : (i : ℕ) → i < entriesPerPage → entryAt blankPage i ≡ blankEntry
+unfolding blankPage entryAt
+blankPage-at i h =
+    ap entryOf (entries-at entriesPerPage blankEntry i h) ∙ entryOf-bytes blankEntry (record { word = omega arith; stamp = omega arith })
+
+-- stored one by one: the first, the next, the last
+pub entries-start : (p : List ℕ) (e : Entry) → p ≡ replaced p 0 (entries 0 e)
+unfolding entries
+entries-start p e = sym (replaced-none p 0)
+
+pub entries-step : (p q r : List ℕ) (i : ℕ) (e : Entry) → length p ≡ pageSize → i < entriesPerPage → q ≡ replaced p 0 (entries i e)
+    → r ≡ withEntry q i e → r ≡ replaced p 0 (entries (i + 1) e)
+unfolding withEntry
+entries-step p q r i e l h eq er =
+    let size = entries-length i e in
+    let place : entrySize * i ≡ 0 + length (entries i e) = omega (arith, size) in
+    er
+    ∙ ap₂ (λ (x : List ℕ) (at : ℕ). replaced x at (entryBytes e)) eq place
+    ∙ replaced-append p 0 (entries i e) (entryBytes e) (omega (arith, size, entryBytes-length e))
+    ∙ ap (replaced p 0) (entries-more i e ∙ ap (λ (n : ℕ). entries n e) (sym (add-one i)))
+
+pub entries-end : (p q : List ℕ) (i : ℕ) → length p ≡ pageSize → i ≡ entriesPerPage → q ≡ replaced p 0 (entries i blankEntry) → q ≡ blankPage
+unfolding blankPage
+entries-end p q i l n eq =
+    eq ∙ ap (λ (k : ℕ). replaced p 0 (entries k blankEntry)) n
+    ∙ replaced-all p (entries entriesPerPage blankEntry) (entries-length entriesPerPage blankEntry ∙ sym l)

@@ -1,0 +1,75 @@
+-- Laws of states and of the time left: when an entry has each, and what each says of the entry. Assumes nothing.
+use mathlib.Core.Path.{_≡_, refl, ap, _∙_}
+use mathlib.Core.List.{List}
+use mathlib.Core.Bool.{Bool, true, false, cond}
+use Prim.Native.Nat.{ℕ, zero, suc, _-_, _≤_, _<_, _^_}
+use native.Mathlib.Omega.{arith}
+use borrow.Author.Tests.{ltb-true, ltb-false, lt-ltb, le-ltb}
+use lib.Dec.{ltb}
+use lib.IntN.{ℤ, pos, negsuc, _-ℤ_}
+use mir.Syntax.{w64}
+use mir.Val.{SFits}
+use Rattle.octets.specs.Part.{replaced}
+use Rattle.octets.specs.Number.{bytes, withNumber}
+use Rattle.octets.specs.Signed.{twos, signed}
+use Rattle.octets.proofs.SignedLaw.{signed-twos}
+use Rattle.lockpage.specs.declared.Entry.{Entry}
+use Rattle.lockpage.specs.declared.State.{State}
+use Rattle.lockpage.specs.declared.State.the-variants.{Free, Frozen, Counting}
+use Rattle.lockpage.specs.Size.{wordSize}
+use Rattle.lockpage.specs.Entry.{flag, frozen, unfrozen, isFrozen}
+use Rattle.lockpage.specs.State.{state, timeLeft, timeLeftSize, timeLeftBytes}
+use Rattle.lockpage.proofs.EntryLaw.{frozen-true, frozen-false}
+
+module _ (now : ℕ) (e : Entry) where
+  pub state-frozen : isFrozen (e .stamp) ≡ true → state now e ≡ Frozen
+  unfolding state
+  state-frozen f = rw (state, f)
+
+  pub state-counting : isFrozen (e .stamp) ≡ false → now < e .word → state now e ≡ Counting
+  unfolding state
+  state-counting f h = rw (state, f, lt-ltb now (e .word) h)
+
+  pub state-free : isFrozen (e .stamp) ≡ false → e .word ≤ now → state now e ≡ Free
+  unfolding state
+  state-free f h = rw (state, f, le-ltb now (e .word) h)
+
+  -- what a state says of the entry
+  abbrev Says : State → Type 0
+  Says Free = (flag (e .stamp) ≡ unfrozen) × (e .word ≤ now)
+  Says Frozen = flag (e .stamp) ≡ frozen
+  Says Counting = (flag (e .stamp) ≡ unfrozen) × (now < e .word)
+
+  pub says : Says (state now e)
+  unfolding state
+  says = go (isFrozen (e .stamp)) refl (ltb now (e .word)) refl
+    where
+      go : (a : Bool) → isFrozen (e .stamp) ≡ a → (b : Bool) → ltb now (e .word) ≡ b
+          → Says (elim a [ true ↦ Frozen | false ↦ elim b [ true ↦ Counting | false ↦ Free ] ])
+      go true f b h = frozen-true (e .stamp) f
+      go false f true h = (frozen-false (e .stamp) f, ltb-true now (e .word) h)
+      go false f false h = (frozen-false (e .stamp) f, ltb-false now (e .word) h)
+
+  pub left-frozen : isFrozen (e .stamp) ≡ true → timeLeft now e ≡ pos (e .word)
+  unfolding timeLeft
+  left-frozen f = rw (timeLeft, f)
+
+  pub left-unfrozen : isFrozen (e .stamp) ≡ false → timeLeft now e ≡ pos (e .word) -ℤ pos now
+  unfolding timeLeft
+  left-unfrozen f = rw (timeLeft, f)
+
+-- the difference of two numbers of 4 bytes has 64 bits
+pub minus-fits : (a b : ℕ) → a < 256 ^ wordSize → b < 256 ^ wordSize → SFits w64 (pos a -ℤ pos b)
+minus-fits a zero h k = record { sfits = omega arith }
+minus-fits a (suc b) h k = go (ltb a (suc b)) refl
+  where
+    go : (t : Bool) → ltb a (suc b) ≡ t → SFits w64 (cond t (negsuc (suc b - suc a)) (pos (a - suc b)))
+    go true p = record { sfits = omega arith }
+    go false p = record { sfits = omega arith }
+
+-- a time left that is stored
+pub left-stored : (l r : List ℕ) (at now : ℕ) (e : Entry) (z : ℤ) → SFits w64 z → r ≡ withNumber l at timeLeftSize (twos (signed (twos z)))
+    → z ≡ timeLeft now e
+    → r ≡ replaced l at (timeLeftBytes now e)
+unfolding withNumber timeLeftBytes
+left-stored l r at now e z f er ez = er ∙ ap (λ (t : ℤ). replaced l at (bytes timeLeftSize (twos t))) (signed-twos z f ∙ ez)

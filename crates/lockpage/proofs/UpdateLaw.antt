@@ -1,0 +1,114 @@
+-- Laws of what an update stores: its limit, its stamp, its expiry, that it fits. Assumes nothing.
+use mathlib.Core.Path.{_≡_, refl, ap, sym, _∙_}
+use mathlib.Core.Bool.{Bool, true, false, false≢true}
+use mathlib.Core.Logic.{_⊎_, inl, inr}
+use Prim.Native.Nat.{ℕ, _+_, _/_, _≤_, _<_, _^_}
+use native.Mathlib.Nat.{add-zero}
+use native.Mathlib.Omega.{arith}
+use borrow.Author.Tests.{leb-true}
+use lib.Dec.{leb, lit≤}
+use Rattle.lockpage.specs.declared.Entry.{Entry}
+use Rattle.lockpage.specs.declared.State.{State}
+use Rattle.lockpage.specs.declared.State.the-variants.{Free, Frozen, Counting}
+use Rattle.lockpage.specs.declared.Update.{Update}
+use Rattle.lockpage.specs.declared.Update.the-variants.{Write, Unfreeze, Increment}
+use Rattle.lockpage.specs.Entry.{EntryFits, timeOfWrite, flag, frozen, unfrozen, isFrozen}
+use Rattle.lockpage.specs.Update.{latestTime, longestLock, latestExpiry, expiryAt, updated, allowed, wordLimit, withinLimit}
+use Rattle.lockpage.proofs.EntryLaw.{flag-stampOf, timeOfWrite-stampOf}
+
+-- ---- the expiry
+
+-- a lock is held for its full length
+pub expiry-reaches : (now lock : ℕ) → now + lock ≤ expiryAt now lock
+unfolding expiryAt
+expiry-reaches now lock = omega arith
+
+pub expiry-none : (now : ℕ) → expiryAt now 0 ≡ now
+unfolding expiryAt
+expiry-none now = add-zero now
+
+-- ---- the limit
+
+pub within-lock : (e : Entry) → isFrozen (e .stamp) ≡ true → leb (e .word) longestLock ≡ withinLimit e
+unfolding withinLimit wordLimit
+within-lock e f = rw (withinLimit, wordLimit, f)
+
+pub within-expiry : (e : Entry) → isFrozen (e .stamp) ≡ false → leb (e .word) latestExpiry ≡ withinLimit e
+unfolding withinLimit wordLimit
+within-expiry e f = rw (withinLimit, wordLimit, f)
+
+-- a word within its limit has 4 bytes
+pub within-most : (e : Entry) → withinLimit e ≡ true → e .word ≤ latestExpiry
+unfolding withinLimit wordLimit
+within-most e h = go (isFrozen (e .stamp)) h
+  where
+    go : (f : Bool) → leb (e .word) (elim f [ true ↦ longestLock | false ↦ latestExpiry ]) ≡ true → e .word ≤ latestExpiry
+    go true t = omega (arith, leb-true (e .word) longestLock t)
+    go false t = leb-true (e .word) latestExpiry t
+
+-- ---- what is stored
+
+pub stamp-small : (u : Update) (now : ℕ) (e : Entry) → now ≤ latestTime → EntryFits e → updated u now e .stamp < 256 ^ 4
+unfolding updated timeOfWrite
+stamp-small (Write lock) now e h f = omega arith
+stamp-small Unfreeze now e h f = omega (arith, f .stamp)
+stamp-small (Increment value) now e h f = f .stamp
+
+pub updated-fits : (u : Update) (now : ℕ) (e : Entry) → now ≤ latestTime → EntryFits e → withinLimit (updated u now e) ≡ true
+    → EntryFits (updated u now e)
+updated-fits u now e h f w = record { word = omega (arith, within-most (updated u now e) w); stamp = stamp-small u now e h f }
+
+-- a write
+pub written-word : (lock now : ℕ) (e : Entry) → updated (Write lock) now e .word ≡ lock
+unfolding updated
+written-word lock now e = refl
+
+pub written-flag : (lock now : ℕ) (e : Entry) → flag (updated (Write lock) now e .stamp) ≡ frozen
+unfolding updated
+written-flag lock now e = flag-stampOf now frozen (omega arith)
+
+pub written-time : (lock now : ℕ) (e : Entry) → timeOfWrite (updated (Write lock) now e) ≡ now
+unfolding updated
+written-time lock now e = timeOfWrite-stampOf lock now frozen (omega arith)
+
+-- an unfreeze
+pub unfrozen-word : (now : ℕ) (e : Entry) → updated Unfreeze now e .word ≡ expiryAt now (e .word)
+unfolding updated
+unfrozen-word now e = refl
+
+pub unfrozen-flag : (now : ℕ) (e : Entry) → flag (updated Unfreeze now e .stamp) ≡ unfrozen
+unfolding updated
+unfrozen-flag now e = flag-stampOf (timeOfWrite e) unfrozen (omega arith)
+
+pub unfrozen-time : (now : ℕ) (e : Entry) → timeOfWrite (updated Unfreeze now e) ≡ timeOfWrite e
+unfolding updated
+unfrozen-time now e = timeOfWrite-stampOf (expiryAt now (e .word)) (timeOfWrite e) unfrozen (omega arith)
+
+-- an increment
+pub grown-word : (value now : ℕ) (e : Entry) → updated (Increment value) now e .word ≡ e .word + value
+unfolding updated
+grown-word value now e = refl
+
+pub grown-stamp : (value now : ℕ) (e : Entry) → updated (Increment value) now e .stamp ≡ e .stamp
+unfolding updated
+grown-stamp value now e = refl
+
+-- ---- what an allowed update says of the state
+
+pub allowed-write : (lock : ℕ) (s : State) → allowed (Write lock) s ≡ true → s ≡ Free
+unfolding allowed
+allowed-write lock Free e = refl
+allowed-write lock Frozen e = absurd (false≢true e)
+allowed-write lock Counting e = absurd (false≢true e)
+
+pub allowed-unfreeze : (s : State) → allowed Unfreeze s ≡ true → s ≡ Frozen
+unfolding allowed
+allowed-unfreeze Free e = absurd (false≢true e)
+allowed-unfreeze Frozen e = refl
+allowed-unfreeze Counting e = absurd (false≢true e)
+
+pub allowed-increment : (value : ℕ) (s : State) → allowed (Increment value) s ≡ true → (s ≡ Frozen) ⊎ (s ≡ Counting)
+unfolding allowed
+allowed-increment value Free e = absurd (false≢true e)
+allowed-increment value Frozen e = inl refl
+allowed-increment value Counting e = inr refl

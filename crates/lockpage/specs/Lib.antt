@@ -1,0 +1,7 @@
+-- The definitions that the contracts of lockpage cite, and every crate above it.
+pub mod Size
+pub mod Entry
+pub mod State
+pub mod Update
+pub mod Page
+pub mod Claims

@@ -1,0 +1,55 @@
+-- What a write, an unfreeze and an increment do to an entry, in which states they may, and how large a word they may store, after
+-- document 01, "Commands", kinds 4 to 6, and "Questions", 9 and 10. Assumes nothing: these are definitions.
+use Prim.Native.Nat.{ℕ, _+_}
+use mathlib.Core.Bool.{Bool, true, false}
+use lib.Dec.{leb}
+use Rattle.lockpage.specs.declared.Entry.{Entry}
+use Rattle.lockpage.specs.declared.State.{State}
+use Rattle.lockpage.specs.declared.State.the-variants.{Free, Frozen, Counting}
+use Rattle.lockpage.specs.declared.Update.{Update}
+use Rattle.lockpage.specs.declared.Update.the-variants.{Write, Unfreeze, Increment}
+use Rattle.lockpage.specs.Entry.{entry, stampOf, timeOfWrite, frozen, unfrozen, isFrozen}
+
+-- ---- limits
+
+-- question 4: "at most 2,147,483,647", so that 2 × time + f has 4 bytes
+abbrev pub latestTime : ℕ
+latestTime = 2147483647
+
+-- question 10: "a lock written or grown at most 2,147,483,647, an expiry at most 4,294,967,294"
+abbrev pub longestLock : ℕ
+longestLock = 2147483647
+
+abbrev pub latestExpiry : ℕ
+latestExpiry = 4294967294
+
+-- ---- what is stored
+
+-- "word = now + lock"
+unfoldable pub expiryAt : ℕ → ℕ → ℕ
+expiryAt now lock = now + lock
+
+-- a write: "Word = lock, stamp = 2 × now". An unfreeze: "word = now + lock, f = 1". An increment: "word + value".
+unfoldable pub updated : Update → ℕ → Entry → Entry
+updated (Write lock) now e = entry lock (stampOf now frozen)
+updated Unfreeze now e = entry (expiryAt now (e .word)) (stampOf (timeOfWrite e) unfrozen)
+updated (Increment value) now e = entry (e .word + value) (e .stamp)
+
+-- question 9: "Write: free? Unfreeze: frozen? Increment: frozen or counting?"
+unfoldable pub allowed : Update → State → Bool
+allowed (Write lock) Free = true
+allowed (Write lock) Frozen = false
+allowed (Write lock) Counting = false
+allowed Unfreeze Free = false
+allowed Unfreeze Frozen = true
+allowed Unfreeze Counting = false
+allowed (Increment value) Free = false
+allowed (Increment value) Frozen = true
+allowed (Increment value) Counting = true
+
+-- question 10, of the entry that is to be stored
+unfoldable pub wordLimit : Entry → ℕ
+wordLimit e = elim (isFrozen (e .stamp)) [ true ↦ longestLock | false ↦ latestExpiry ]
+
+unfoldable pub withinLimit : Entry → Bool
+withinLimit e = leb (e .word) (wordLimit e)
