@@ -1,7 +1,7 @@
 -- Laws of pages: an entry after a store at the same place and at another, lengths, bytes, the blank page. Assumes nothing.
 use mathlib.Core.Path.{_≡_, refl, ap, ap₂, sym, _∙_}
 use mathlib.Core.Logic.{_⊎_, inl, inr}
-use mathlib.Core.List.{List, [], _++_, append-assoc, append-nil}
+use mathlib.Core.List.{List, _++_, append-assoc, append-nil}
 use Prim.Native.Nat.{ℕ, zero, suc, _+_, _*_, _≤_, _<_}
 use native.Mathlib.Nat.{add-zero}
 use native.Mathlib.Numerals.{add-one}
@@ -10,7 +10,7 @@ use lib.ListN.{length, length-append}
 use Rattle.octets.specs.Part.{AreBytes, part, replaced}
 use Rattle.octets.specs.Number.{number, numberAt, withNumber, bytes}
 use Rattle.octets.proofs.BelowLaw.{below-none, below-append, below-part, below-replaced}
-use Rattle.octets.proofs.PartLaw.{part-length, part-part, part-first, part-left, part-right}
+use Rattle.octets.proofs.PartLaw.{part-length, part-part, part-first, part-right}
 use Rattle.octets.proofs.NumberLaw.{bytes-length}
 use Rattle.octets.proofs.ReplacedLaw.{replaced-length, part-same, part-other, replaced-append, replaced-all, replaced-none, replaced-own}
 use Rattle.lockpage.specs.declared.Entry.{Entry}

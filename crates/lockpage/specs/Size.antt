@@ -1,5 +1,5 @@
 -- Sizes, after document 01, "Disk". Assumes nothing: these are definitions.
-use Prim.Native.Nat.{ℕ, _*_}
+use Prim.Native.Nat.{ℕ}
 
 -- "64 entries of 8 bytes: a 4-byte word, then a 4-byte stamp"
 abbrev pub wordSize : ℕ

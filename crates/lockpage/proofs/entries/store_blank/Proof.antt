@@ -1,13 +1,13 @@
 -- `lockpage::entries::store_blank` meets its contract. The loop's invariant: the first i entries are stored. Assumes nothing.
 use borrow.Author.Needs.{needs}
-use mathlib.Core.Path.{_≡_, _∙_}
+use mathlib.Core.Path.{_≡_}
 use Prim.Native.Nat.{_≤_, _-_}
 use native.Mathlib.Omega.{arith}
 use Rattle.octets.specs.Part.{replaced}
 use lib.ListN.{length}
 use Rattle.lockpage.specs.Size.{entriesPerPage}
 use Rattle.lockpage.specs.Page.{entries, blankEntry}
-use Rattle.lockpage.proofs.PageLaw.{entries-start, entries-step, entries-end, withEntry-length}
+use Rattle.lockpage.proofs.PageLaw.{entries-start, entries-step, entries-end}
 use Rattle.lockpage.proofs.entries.store_blank.Statement.{statement}
 use Rattle.lockpage.proofs.entries.store_blank.Tie as tie
 

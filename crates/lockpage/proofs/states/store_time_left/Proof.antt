@@ -1,11 +1,5 @@
 -- `lockpage::states::store_time_left` meets its contract, by those of the two functions that it calls. Assumes nothing.
 use borrow.Author.Needs.{needs}
-use mathlib.Core.Path.{ap, _∙_}
-use Prim.Native.Nat.{ℕ}
-use Rattle.octets.specs.Part.{replaced}
-use Rattle.octets.specs.Number.{bytes, withNumber}
-use Rattle.octets.specs.Signed.{twos}
-use Rattle.lockpage.specs.State.{timeLeftSize, timeLeftBytes}
 use Rattle.lockpage.proofs.StateLaw.{left-stored}
 use Rattle.lockpage.proofs.states.store_time_left.Statement.{statement}
 use Rattle.lockpage.proofs.states.store_time_left.Tie as tie

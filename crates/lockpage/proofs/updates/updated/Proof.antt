@@ -1,6 +1,6 @@
 -- `lockpage::updates::updated` meets its contract, by those of the word and the stamp. Assumes nothing.
 use borrow.Author.Needs.{needs}
-use mathlib.Core.Path.{ap₂, _∙_}
+use mathlib.Core.Path.{ap₂}
 use native.Mathlib.Omega.{arith}
 use Rattle.lockpage.specs.Entry.{entry}
 use Rattle.lockpage.proofs.UpdateLaw.{within-most}

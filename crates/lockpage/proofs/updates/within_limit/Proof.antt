@@ -1,6 +1,6 @@
 -- `lockpage::updates::within_limit` meets its contract, under either limit. Assumes nothing.
 use borrow.Author.Needs.{needs}
-use mathlib.Core.Path.{ap, sym, _∙_}
+use mathlib.Core.Path.{sym, _∙_}
 use Rattle.lockpage.proofs.UpdateLaw.{within-lock, within-expiry}
 use Rattle.lockpage.proofs.updates.within_limit.Statement.{statement}
 use Rattle.lockpage.proofs.updates.within_limit.Tie as tie
