@@ -8,9 +8,10 @@ use native.Mathlib.Omega.{arith}
 use lib.ListN.{length, take, drop, length-drop}
 use lib.Seq.{length-take-le}
 use Rattle.octets.specs.Part.{AreBytes, part, replaced}
+use Rattle.octets.proofs.OrderLaw.{apart}
 use Rattle.octets.proofs.BelowLaw.{below-part, below-replaced}
-use Rattle.octets.proofs.PartLaw.{part-length, part-part, part-all}
-use Rattle.octets.proofs.ReplacedLaw.{replaced-length, part-same, part-other, replaced-all, replaced-again, replaced-lent, replaced-within}
+use Rattle.octets.proofs.PartLaw.{part-length, part-part}
+use Rattle.octets.proofs.ReplacedLaw.{replaced-length, part-same, part-other, replaced-all, replaced-again, replaced-lent, replaced-within, part-copied, all-copied}
 use Rattle.lockpage.specs.Size.{blockSize}
 use Rattle.addressing.specs.Map.{groupBlocks, groupSize, diskSize, dataBlocks, groupOf, groupStart, blockStart}
 use Rattle.addressing.specs.Disk.{block, withBlock, stretch, withStretch, HasGroup}
@@ -27,12 +28,13 @@ module _ (l : List ℕ) (q : ℕ) (new : List ℕ) (size : length new ≡ blockS
   unfolding block withBlock
   block-same = part-same l (blockStart q) new blockSize size room
 
-  pub block-other : (p : ℕ) → (p < q) ⊎ (q < p) → block (withBlock l q new) p ≡ block l p
+  pub block-other : (p : ℕ) → (p ≡ q → ⊥) → block (withBlock l q new) p ≡ block l p
   unfolding block withBlock
-  block-other p (inl h) =
-      part-other l (blockStart q) new (blockStart p) blockSize (omega arith) (inl (blockStart-below p q h))
-  block-other p (inr h) =
-      part-other l (blockStart q) new (blockStart p) blockSize (omega arith) (inr (omega (arith, blockStart-below q p h)))
+  block-other p n = part-other l (blockStart q) new (blockStart p) blockSize (omega arith) (go (apart p q n))
+    where
+      go : (p < q) ⊎ (q < p) → (blockStart p + blockSize ≤ blockStart q) ⊎ (blockStart q + length new ≤ blockStart p)
+      go (inl h) = inl (blockStart-below p q h)
+      go (inr h) = inr (omega (arith, blockStart-below q p h))
 
   -- the same block twice: the second store stands
   pub withBlock-again : (newer : List ℕ) → length newer ≡ blockSize → withBlock (withBlock l q new) q newer ≡ withBlock l q newer
@@ -75,13 +77,14 @@ module _ (disk : List ℕ) (g : ℕ) (has : HasGroup disk g) where
   unfolding stretch withStretch HasGroup
   stretch-same new s = part-same disk (groupStart g) new groupSize s has
 
-  pub stretch-other : (new : List ℕ) → length new ≡ groupSize → (h : ℕ) → (h < g) ⊎ (g < h)
+  pub stretch-other : (new : List ℕ) → length new ≡ groupSize → (h : ℕ) → (h ≡ g → ⊥)
       → stretch (withStretch disk g new) h ≡ stretch disk h
   unfolding stretch withStretch HasGroup
-  stretch-other new s h (inl k) =
-      part-other disk (groupStart g) new (groupStart h) groupSize (omega arith) (inl (groupStart-apart h g k))
-  stretch-other new s h (inr k) =
-      part-other disk (groupStart g) new (groupStart h) groupSize (omega arith) (inr (omega (arith, groupStart-apart g h k)))
+  stretch-other new s h n = part-other disk (groupStart g) new (groupStart h) groupSize (omega arith) (go (apart h g n))
+    where
+      go : (h < g) ⊎ (g < h) → (groupStart h + groupSize ≤ groupStart g) ⊎ (groupStart g + length new ≤ groupStart h)
+      go (inl k) = inl (groupStart-apart h g k)
+      go (inr k) = inr (omega (arith, groupStart-apart g h k))
 
   module _ (place : ℕ) (h : place < groupBlocks) where
     -- a block read within the stretch is read on the disk
@@ -106,9 +109,7 @@ pub block-copied : (l room r : List ℕ) (p from : ℕ) → length room ≡ bloc
     → from ≡ blockStart p → r ≡ replaced room 0 (part l from blockSize) → r ≡ block l p
 unfolding block
 block-copied l room r p from s h ef er =
-    er
-    ∙ ap (λ (at : ℕ). replaced room 0 (part l at blockSize)) ef
-    ∙ replaced-all room (part l (blockStart p) blockSize) (part-length l (blockStart p) blockSize h ∙ sym s)
+    part-copied l room r (blockStart p) blockSize s h (er ∙ ap (λ (at : ℕ). replaced room 0 (part l at blockSize)) ef)
 
 -- the end of a part less its start
 span : (from n : ℕ) → from + n - from ≡ n
@@ -122,8 +123,8 @@ unfolding withBlock
 block-filled l new r p from s h ef er =
     let lent : List ℕ = take (from + blockSize - from) (drop from l) in
     let room : length lent ≡ blockSize =
-        length-take-le (from + blockSize - from) (drop from l) (omega (arith, length-drop from l)) ∙ span from blockSize in
-    let filled : r ≡ new = er ∙ ap (replaced lent 0) (part-all new blockSize (omega arith)) ∙ replaced-all lent new (s ∙ sym room) in
+    length-take-le (from + blockSize - from) (drop from l) (omega (arith, length-drop from l)) ∙ span from blockSize in
+    let filled : r ≡ new = all-copied lent new r 0 blockSize s er ∙ replaced-all lent new (s ∙ sym room) in
     replaced-lent l from (from + blockSize - from) r (ap length filled ∙ s ∙ sym (span from blockSize)) ∙ ap₂ (replaced l) ef filled
 
 -- a stretch's end, a stretch cut out, and one lent and come back
@@ -155,11 +156,11 @@ module _ (disk : List ℕ) (g from place p : ℕ) (has : HasGroup disk g) (h : p
       → take from disk ++ (r ++ drop (from + groupSize - from) (drop from disk)) ≡ withBlock disk p new
   block-stored new r s er =
       let within : r ≡ withBlock (stretch disk g) place new =
-          er ∙ ap (λ (t : List ℕ). withBlock t place new) (stretch-cut disk g from ef) in
+      er ∙ ap (λ (t : List ℕ). withBlock t place new) (stretch-cut disk g from ef) in
       let room : blockStart place + blockSize ≤ length (stretch disk g) =
-          omega (arith, stretch-length disk g has, blockStart-place place h) in
+      omega (arith, stretch-length disk g has, blockStart-place place h) in
       let size : length r ≡ groupSize =
-          ap length within ∙ withBlock-length (stretch disk g) place new s room ∙ stretch-length disk g has in
+      ap length within ∙ withBlock-length (stretch disk g) place new s room ∙ stretch-length disk g has in
       stretch-lent disk r g from ef size
       ∙ ap (withStretch disk g) within
       ∙ stored-in-stretch disk g has place h new s

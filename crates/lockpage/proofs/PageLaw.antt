@@ -9,6 +9,7 @@ use native.Mathlib.Omega.{arith}
 use lib.ListN.{length, length-append}
 use Rattle.octets.specs.Part.{AreBytes, part, replaced}
 use Rattle.octets.specs.Number.{number, numberAt, withNumber, bytes}
+use Rattle.octets.proofs.OrderLaw.{apart}
 use Rattle.octets.proofs.BelowLaw.{below-none, below-append, below-part, below-replaced}
 use Rattle.octets.proofs.PartLaw.{part-length, part-part, part-first, part-right}
 use Rattle.octets.proofs.NumberLaw.{bytes-length}
@@ -37,15 +38,15 @@ module _ (p : List ℕ) (i : ℕ) (e : Entry) (room : entrySize * i + entrySize 
   entryAt-same f =
       ap entryOf (part-same p (entrySize * i) (entryBytes e) entrySize (entryBytes-length e) room) ∙ entryOf-bytes e f
 
-  pub entryAt-other : (j : ℕ) → (j < i) ⊎ (i < j) → entryAt (withEntry p i e) j ≡ entryAt p j
+  pub entryAt-other : (j : ℕ) → (j ≡ i → ⊥) → entryAt (withEntry p i e) j ≡ entryAt p j
   unfolding entryAt withEntry
-  entryAt-other j (inl k) =
+  entryAt-other j n =
       ap entryOf
-      (part-other p (entrySize * i) (entryBytes e) (entrySize * j) entrySize (omega (arith, entryBytes-length e)) (inl (omega arith)))
-  entryAt-other j (inr k) =
-      ap entryOf
-      (part-other p (entrySize * i) (entryBytes e) (entrySize * j) entrySize (omega (arith, entryBytes-length e))
-      (inr (omega (arith, entryBytes-length e))))
+      (part-other p (entrySize * i) (entryBytes e) (entrySize * j) entrySize (omega (arith, entryBytes-length e)) (go (apart j i n)))
+    where
+      go : (j < i) ⊎ (i < j) → (entrySize * j + entrySize ≤ entrySize * i) ⊎ (entrySize * i + length (entryBytes e) ≤ entrySize * j)
+      go (inl k) = inl (omega arith)
+      go (inr k) = inr (omega (arith, entryBytes-length e))
 
 module _ (p : List ℕ) (i : ℕ) (b : AreBytes p) (room : entrySize * i + entrySize ≤ length p) where
   -- the eight bytes of entry i

@@ -16,7 +16,10 @@ pub fn load_entry(page: &[u8], i: usize) -> Entry
     let at = crate::ENTRY_SIZE * i;
     let word = octets::load_u32(page, at);
     let stamp = octets::load_u32(page, at + STAMP_AT);
-    Entry { word: word, stamp: stamp }
+    Entry {
+        word: word,
+        stamp: stamp,
+    }
 }
 
 // Stores entry i.

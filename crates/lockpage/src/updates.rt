@@ -80,5 +80,8 @@ pub fn updated(u: Update, time: u32, e: Entry) -> Entry
 {
     let word = new_word(u, time, e);
     let stamp = new_stamp(u, time, e);
-    Entry { word: word as u32, stamp: stamp }
+    Entry {
+        word: word as u32,
+        stamp: stamp,
+    }
 }

@@ -10,7 +10,9 @@ use lib.Dec.{eqb}
 use lib.Bits.{bitOr, bitXor, or-add-and, xor-add-and, and-le-l, and-le-r, xor-self, or-zero-l}
 use lib.ListN.{length, getD}
 use lib.Seq.{ext-getD}
-use Rattle.octets.specs.Part.{equal}
+use Rattle.octets.specs.Part.{part, repeated, equal}
+use Rattle.octets.proofs.PartLaw.{part-length, part-at}
+use Rattle.octets.proofs.RepeatedLaw.{repeated-length, repeated-at}
 
 both : (a b : Bool) → (a && b) ≡ true → (a ≡ true) × (b ≡ true)
 both true b e = (refl, e)
@@ -68,6 +70,14 @@ compared-step a b i d c =
           ap₂ bitOr d0 (ap (λ (x : ℕ). bitXor x (getD b i 0)) here ∙ xor-self (getD b i 0)) ∙ or-zero-l 0;
     }
 
+-- the same, of a part with a byte repeated
+pub filled-step : (l : List ℕ) (at n b i d : ℕ) → i < n → Compared (part l at n) (repeated n b) i d
+    → Compared (part l at n) (repeated n b) (i + 1) (bitOr d (bitXor (getD l (at + i) 0) b))
+filled-step l at n b i d h c =
+    subst (λ (x : ℕ). Compared (part l at n) (repeated n b) (i + 1) (bitOr d x))
+    (ap₂ bitXor (part-at l at n i h) (repeated-at n b i h))
+    (compared-step (part l at n) (repeated n b) i d c)
+
 -- at the end the test of d is the comparison
 pub compared-end : (a b : List ℕ) (i d : ℕ) → Compared a b i d → length a ≡ length b → length a ≤ i → eqb d 0 ≡ equal a b
 compared-end a b i d c l h = go (eqb d 0) refl
@@ -76,3 +86,9 @@ compared-end a b i d c l h = go (eqb d 0) refl
     go true e = sym (equal-yes a b (ext-getD 0 a b l (λ k u. c .same (eqb-true d 0 e) k (omega arith))))
     go false e =
         sym (equal-no a b (λ q. eqb-false d 0 e (c .none (λ k u. ap (λ (x : List ℕ). getD x k 0) q))))
+
+pub filled-end : (l : List ℕ) (at n b i d : ℕ) → at + n ≤ length l → n ≤ i → Compared (part l at n) (repeated n b) i d
+    → eqb d 0 ≡ equal (part l at n) (repeated n b)
+filled-end l at n b i d room h c =
+    let size = part-length l at n room in
+    compared-end (part l at n) (repeated n b) i d c (size ∙ sym (repeated-length n b)) (omega (arith, size))

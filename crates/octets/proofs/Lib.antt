@@ -1,4 +1,5 @@
 -- The laws that proofs here and in the crates above cite.
+pub mod OrderLaw
 pub mod BelowLaw
 pub mod RepeatedLaw
 pub mod PartLaw

@@ -4,14 +4,14 @@ use mathlib.Core.Path.{_≡_, refl, ap, ap₂, sym, subst, _∙_}
 use mathlib.Core.Logic.{_⊎_}
 use mathlib.Core.List.{List, [], _∷_, _++_}
 use Prim.Native.Nat.{ℕ, zero, suc, _+_, _*_, _/_, _%_, _^_, _≤_, _<_}
-use native.Mathlib.Nat.{zero-add, suc-add, mul-assoc, mul-comm, one-mul, mod-add-div, pow-suc, div-lt-iff-lt-mul, div-one, div-div-eq-div-mul}
+use native.Mathlib.Nat.{mod-eq-of-lt, zero-add, suc-add, mul-assoc, mul-comm, one-mul, mod-add-div, pow-suc, div-lt-iff-lt-mul, div-one, div-div-eq-div-mul}
 use native.Mathlib.Numerals.{add-one, add-two, add-three}
 use native.Mathlib.Omega.{arith}
 use lib.Dec.{lit<}
 use lib.Arith.{mod-mul}
 use lib.ListN.{length, take, getD, set}
 use lib.Seq.{drop-cons}
-use Rattle.octets.specs.Part.{AreBytes, part, replaced}
+use Rattle.octets.specs.Part.{AreBytes, part, replaced, repeated}
 use Rattle.octets.specs.Number.{number, bytes, numberAt, withNumber}
 use Rattle.octets.proofs.BelowLaw.{below-none, below-cons, below-head, below-tail, below-part, below-replaced}
 use Rattle.octets.proofs.PartLaw.{part-length, part-add}
@@ -119,6 +119,16 @@ withNumber-own l at k h e =
     (ap (λ (n : ℕ). bytes n (number (part l at k))) (sym (part-length l at k e)) ∙ bytes-number (part l at k) (below-part 256 l at k h))
     ∙ replaced-own l at k e
 
+-- zeros
+number-zeros : (k : ℕ) → number (repeated k 0) ≡ 0
+unfolding number repeated
+number-zeros zero = refl
+number-zeros (suc k) = omega (arith, number-zeros k)
+
+pub numberAt-zeros : (l : List ℕ) (at k : ℕ) → part l at k ≡ repeated k 0 → numberAt l at k ≡ 0
+unfolding numberAt
+numberAt-zeros l at k e = ap number e ∙ number-zeros k
+
 -- ---- a number of j + k bytes, in two
 
 pub numberAt-add : (l : List ℕ) (at j k : ℕ) → at + j ≤ length l
@@ -157,6 +167,14 @@ numberAt-cons l at k h = ap (λ (r : List ℕ). number (take (suc k) r)) (drop-c
 numberAt-none : (l : List ℕ) (at : ℕ) → _≡_ {A = ℕ} (numberAt l at 0) 0
 unfolding numberAt number part
 numberAt-none l at = refl
+
+-- one byte, read and stored
+pub number-of-one : (l : List ℕ) (at : ℕ) → at + 1 ≤ length l → getD l at 0 ≡ numberAt l at 1
+number-of-one l at h = omega (arith, numberAt-cons l at 0 (omega arith), numberAt-none l (suc at))
+
+pub stored-one : (l : List ℕ) (at n : ℕ) → at + 1 ≤ length l → n < 256 → set l at n ≡ withNumber l at 1 n
+unfolding withNumber bytes
+stored-one l at n h s = ap (set l at) (sym (mod-eq-of-lt s)) ∙ replaced-sets l at (bytes 1 n) h
 
 -- four bytes, read one by one
 pub number-of-four : (l : List ℕ) (at a b c d : ℕ) → at + 4 ≤ length l

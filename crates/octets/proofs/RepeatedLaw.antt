@@ -1,10 +1,11 @@
 -- Laws of an element repeated: its length, what stands where, what is left, its bound. Assumes nothing.
-use mathlib.Core.Path.{_≡_, ap, sym, _∙_}
-use Prim.Native.Nat.{ℕ, zero, suc, _-_, _<_}
+use mathlib.Core.Path.{_≡_, refl, ap, sym, _∙_}
+use mathlib.Core.List.{List, _∷_}
+use Prim.Native.Nat.{ℕ, zero, suc, _+_, _-_, _≤_, _<_}
 use native.Mathlib.Nat.{sub-zero, zero-sub, suc-sub-suc}
 use native.Mathlib.Omega.{arith}
-use lib.ListN.{length, drop, getD, replicate, length-replicate, getD-replicate}
-use Rattle.octets.specs.Part.{Below, repeated}
+use lib.ListN.{length, take, drop, getD, replicate, length-replicate, getD-replicate}
+use Rattle.octets.specs.Part.{Below, part, repeated}
 use Rattle.octets.proofs.BelowLaw.{below-none, below-cons}
 
 pub repeated-below : (k n b : ℕ) → b < k → Below k (repeated n b)
@@ -25,3 +26,14 @@ repeated-drop (suc n) b (suc k) = repeated-drop n b k ∙ ap (λ (i : ℕ). repl
 pub repeated-at : (n b i : ℕ) → i < n → getD (repeated n b) i 0 ≡ b
 unfolding repeated
 repeated-at n b i h = getD-replicate n i b 0 h
+
+-- a part of it
+repeated-take : (n b k : ℕ) → k ≤ n → take k (repeated n b) ≡ repeated k b
+unfolding repeated
+repeated-take n b zero h = refl
+repeated-take zero b (suc k) h = absurd (omega arith)
+repeated-take (suc n) b (suc k) h = ap (λ (l : List ℕ). b ∷ l) (repeated-take n b k (omega arith))
+
+pub repeated-part : (n b at k : ℕ) → at + k ≤ n → part (repeated n b) at k ≡ repeated k b
+unfolding part
+repeated-part n b at k h = ap (take k) (repeated-drop n b at) ∙ repeated-take (n - at) b k (omega arith)

@@ -10,7 +10,7 @@ use native.Mathlib.Omega.{arith}
 use lib.ListN.{length, take, drop, getD, set, length-append, length-set, length-drop, take-append-drop, drop-of-length-le}
 use lib.Seq.{take-at, drop-at, take-append-le, drop-append-le, take-append-add, drop-append-add, drop-drop, length-take-le, take-length, sets, sets-eq, paste, paste-zero, paste-suc}
 use Rattle.octets.specs.Part.{part, replaced}
-use Rattle.octets.proofs.PartLaw.{part-left, part-length}
+use Rattle.octets.proofs.PartLaw.{part-left, part-length, part-part, part-all}
 
 pub replaced-length : (l : List ℕ) (at : ℕ) (new : List ℕ) → at + length new ≤ length l → length (replaced l at new) ≡ length l
 unfolding replaced
@@ -55,6 +55,13 @@ pub part-other : (l : List ℕ) (at : ℕ) (new : List ℕ) (f n : ℕ) → at +
     → part (replaced l at new) f n ≡ part l f n
 part-other l at new f n h (inl k) = part-before l at new f n (omega arith) k
 part-other l at new f n h (inr k) = part-after l at new f n h k
+
+-- within it
+pub part-within : (l : List ℕ) (at : ℕ) (new : List ℕ) (f n : ℕ) → at + length new ≤ length l → f + n ≤ length new
+    → part (replaced l at new) (at + f) n ≡ part new f n
+part-within l at new f n h k =
+    sym (part-part (replaced l at new) at (length new) f n k)
+    ∙ ap (λ (x : List ℕ). part x f n) (part-same l at new (length new) refl h)
 
 -- ---- several stores
 
@@ -137,6 +144,16 @@ replaced-within l a k f new h e =
     ∙ replaced-front p x f new
     ∙ ap (λ (y : List ℕ). p ++ replaced y f new) (sym (take-append-drop k x))
     ∙ ap (λ (y : List ℕ). p ++ y) (replaced-back q (drop k x) f new long))
+
+-- ---- copies
+
+-- a part copied into a room of its size
+pub part-copied : (l room r : List ℕ) (at n : ℕ) → length room ≡ n → at + n ≤ length l → r ≡ replaced room 0 (part l at n) → r ≡ part l at n
+part-copied l room r at n s h e = e ∙ replaced-all room (part l at n) (part-length l at n h ∙ sym s)
+
+-- all of a list copied
+pub all-copied : (l new r : List ℕ) (at n : ℕ) → length new ≡ n → r ≡ replaced l at (part new 0 n) → r ≡ replaced l at new
+all-copied l new r at n s e = e ∙ ap (replaced l at) (part-all new n (omega arith))
 
 -- what stands there already
 pub replaced-own : (l : List ℕ) (at n : ℕ) → at + n ≤ length l → replaced l at (part l at n) ≡ l

@@ -15,6 +15,22 @@ fn wide(b: u8) -> u32
     b as u32
 }
 
+// The number in the byte at a place.
+pub fn load_u8(s: &[u8], at: usize) -> u8
+    requires { ⌜ at + 1 ≤ length (now s) ⌝ }
+    ensures { λ r. ⌜ r ≡ numberAt (now (s .entry)) at 1 ⌝ }
+{
+    s[at]
+}
+
+// Stores n in the byte at a place.
+pub fn store_u8(s: &mut [u8], at: usize, n: u8)
+    requires { ⌜ at + 1 ≤ length (now s) ⌝ }
+    ensures { λ _. ⌜ now (s .exit) ≡ withNumber (now (s .entry)) at 1 n ⌝ }
+{
+    s[at] = n;
+}
+
 // The number in the four bytes from at on.
 pub fn load_u32(s: &[u8], at: usize) -> u32
     requires { ⌜ at + 4 ≤ length (now s) ⌝ }
@@ -109,6 +125,20 @@ pub fn fill(s: &mut [u8], at: usize, n: usize, b: u8)
         s[at + i] = b;
         i += 1;
     }
+}
+
+// Whether the n bytes from at on are all b. All of them are looked at, so that the loop has one way out.
+pub fn filled(s: &[u8], at: usize, n: usize, b: u8) -> bool
+    requires { ⌜ at + n ≤ length (now s) ⌝ }
+    ensures { λ r. ⌜ r ≡ P.equal (part (now (s .entry)) at n) (repeated n b) ⌝ }
+{
+    let mut differ: u8 = 0;
+    let mut i = 0;
+    while i < n {
+        differ = differ | (s[at + i] ^ b);
+        i += 1;
+    }
+    differ == 0
 }
 
 // Whether the two slices hold the same bytes. Where they are as long as each other all bytes are looked at, so

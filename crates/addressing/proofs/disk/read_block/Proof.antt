@@ -28,7 +28,7 @@ returns c =
     let started = placed .before in
     let start = started .before .before .before .before in
     let physical-is : physical (start .args .block) ≡ groupBlocks * groupOf (start .args .block) + placed .place-of .result =
-        physical-place (start .args .block) ∙ ap (λ (n : ℕ). groupBlocks * groupOf (start .args .block) + n) (sym (placed .place-of .ensures)) in
+    physical-place (start .args .block) ∙ ap (λ (n : ℕ). groupBlocks * groupOf (start .args .block) + n) (sym (placed .place-of .ensures)) in
     block-read _ _ _ _ _ (start .pre .0) (place-in placed) (starts started) physical-is _ (called .read-block .ensures)
 
 pub read-block-spec : {M : Type 1} → statement M

@@ -24,8 +24,10 @@ loop-again c =
     let loop = test .before in
     let room = loop .before .before .pre in (
       search needs,
-      (search needs,
-      entries-step _ _ _ _ _ room (test .loop-test .taken) (loop .loop .inv .1 .1) (stored .store-entry .ensures)),
+      (
+        search needs,
+        entries-step _ _ _ _ _ room (test .loop-test .taken) (loop .loop .inv .1 .1) (stored .store-entry .ensures),
+      ),
     )
 
 returns : tie.Need-returns Inv-loop μ-loop

@@ -1,0 +1,66 @@
+-- The memory of formatting: what its fields read, and that it is valid. Assumes nothing.
+use mathlib.Core.Path.{_≡_, refl, _∙_}
+use mathlib.Core.Bool.{true}
+use mathlib.Core.List.{List}
+use Prim.Native.Nat.{ℕ, _+_, _-_, _≤_, _<_}
+use native.Mathlib.Omega.{arith}
+use lib.ListN.{length}
+use Rattle.octets.specs.Part.{part, repeated}
+use Rattle.octets.proofs.RepeatedLaw.{repeated-length, repeated-part}
+use Rattle.octets.proofs.NumberLaw.{numberAt-zeros}
+use Rattle.lockpage.specs.Size.{pageSize}
+use Rattle.memory.specs.Layout.{memorySize, saltSize, mostGroups, countStart, countSize, timeStart, timeSize, reservedStart, reservedSize, pageStart}
+use Rattle.memory.specs.Memory.{count, lastTime, none, heldPage, withSalt, withGroups, formatted}
+use Rattle.memory.specs.Valid.{valid}
+use Rattle.memory.specs.Claims.{Reads}
+use Rattle.memory.proofs.FieldLaw.{salt-in, salt-rest, groups-in, held-in, salt-set, groups-set, held-set}
+use Rattle.memory.proofs.ValidLaw.{from-reads}
+
+-- 616 zeros
+blank : List ℕ
+blank = repeated memorySize 0
+
+blank-size : length blank ≡ memorySize
+unfolding blank
+blank-size = repeated-length memorySize 0
+
+blank-part : (at k : ℕ) → at + k ≤ memorySize → part blank at k ≡ repeated k 0
+unfolding blank
+blank-part at k h = repeated-part memorySize 0 at k h
+
+module _ (g : ℕ) (s : List ℕ) (small : g < 256) (size : length s ≡ saltSize) where
+  pub formatted-reads : Reads (formatted g s) s (λ k. 0) 0 g none (repeated pageSize 0)
+  unfolding formatted blank count lastTime heldPage
+  formatted-reads =
+      let a = salt-set blank blank-size s size in
+      let b = groups-set (withSalt blank s) (a .size) g small in
+      let c = held-set (withGroups (withSalt blank s) g) (b .size) none (omega arith) in
+      record {
+        size = c .size;
+        salt = c .salt ∙ b .salt ∙ a .salt;
+        count =
+            λ k h.
+            c .count k h ∙ b .count k h ∙ a .count k h
+            ∙ numberAt-zeros blank (countStart k) countSize (blank-part (countStart k) countSize (omega arith));
+        time = c .time ∙ b .time ∙ a .time ∙ numberAt-zeros blank timeStart timeSize (blank-part timeStart timeSize (omega arith));
+        groups = c .groups ∙ b .groups;
+        held = c .held;
+        page = c .page ∙ b .page ∙ a .page ∙ blank-part pageStart pageSize (omega arith);
+      }
+
+-- it is valid
+pub formatted-valid : (g : ℕ) (s : List ℕ) → 1 ≤ g → g ≤ mostGroups → length s ≡ saltSize → valid (formatted g s) ≡ true
+unfolding formatted blank
+formatted-valid g s least most size =
+    let a = salt-in blank blank-size s size in
+    let b = groups-in (withSalt blank s) (a .size ∙ blank-size) g in
+    let c = held-in (withGroups (withSalt blank s) g) (b .size ∙ a .size ∙ blank-size) none in
+    let rest : ℕ = timeStart - countStart g in
+    from-reads (formatted g s) s (λ k. 0) 0 g none (repeated pageSize 0) (formatted-reads g s (omega arith) size)
+    least most (λ n. absurd (n refl)) (omega arith)
+    (c .front (countStart g) rest (omega arith)
+    ∙ b .front (countStart g) rest (omega arith)
+    ∙ salt-rest blank blank-size s size (countStart g) rest (omega arith)
+    ∙ blank-part (countStart g) rest (omega arith))
+    (c .reserved ∙ b .reserved ∙ a .back reservedStart reservedSize (omega arith) ∙ blank-part reservedStart reservedSize (omega arith))
+    (λ n. absurd (n refl)) (λ e. refl)

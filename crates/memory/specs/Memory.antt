@@ -1,0 +1,73 @@
+-- The fields of the controller memory, each read and each replaced. Everything else goes through these names.
+-- Assumes nothing: these are definitions.
+use Prim.Native.Nat.{ℕ, _-_}
+use mathlib.Core.List.{List}
+use Rattle.octets.specs.Part.{part, replaced, repeated}
+use Rattle.octets.specs.Number.{numberAt, withNumber}
+use Rattle.lockpage.specs.Size.{pageSize}
+use Rattle.memory.specs.Layout.{memorySize, saltStart, saltSize, countsStart, countSize, countStart, timeStart, timeSize, groupsStart, heldStart, groupSize, pageStart}
+
+-- ---- read
+
+unfoldable pub salt : List ℕ → List ℕ
+salt m = part m saltStart saltSize
+
+-- the freshness count of group g
+unfoldable pub count : List ℕ → ℕ → ℕ
+count m g = numberAt m (countStart g) countSize
+
+unfoldable pub lastTime : List ℕ → ℕ
+lastTime m = numberAt m timeStart timeSize
+
+-- G
+unfoldable pub groups : List ℕ → ℕ
+groups m = numberAt m groupsStart groupSize
+
+-- the held group, or none
+unfoldable pub held : List ℕ → ℕ
+held m = numberAt m heldStart groupSize
+
+-- "held group or 255"
+abbrev pub none : ℕ
+none = 255
+
+unfoldable pub heldPage : List ℕ → List ℕ
+heldPage m = part m pageStart pageSize
+
+-- ---- replaced
+
+unfoldable pub withSalt : List ℕ → List ℕ → List ℕ
+withSalt m s = replaced m saltStart s
+
+unfoldable pub withCount : List ℕ → ℕ → ℕ → List ℕ
+withCount m g n = withNumber m (countStart g) countSize n
+
+-- "all counts 0"
+unfoldable pub withNoCounts : List ℕ → List ℕ
+withNoCounts m = replaced m countsStart (repeated (timeStart - countsStart) 0)
+
+unfoldable pub withLastTime : List ℕ → ℕ → List ℕ
+withLastTime m t = withNumber m timeStart timeSize t
+
+unfoldable pub withGroups : List ℕ → ℕ → List ℕ
+withGroups m g = withNumber m groupsStart groupSize g
+
+unfoldable pub withHeld : List ℕ → ℕ → List ℕ
+withHeld m g = withNumber m heldStart groupSize g
+
+unfoldable pub withHeldPage : List ℕ → List ℕ → List ℕ
+withHeldPage m p = replaced m pageStart p
+
+-- ---- several at once
+
+-- page p of group g "becomes the held one"
+unfoldable pub holding : List ℕ → ℕ → List ℕ → List ℕ
+holding m g p = withHeldPage (withHeld m g) p
+
+-- "held becomes 255 and its bytes zero"
+unfoldable pub holdingNone : List ℕ → List ℕ
+holdingNone m = holding m none (repeated pageSize 0)
+
+-- formatting "stores both", G and the salt, "sets .. held to 255 and the rest of the memory to 0"
+unfoldable pub formatted : ℕ → List ℕ → List ℕ
+formatted g s = withHeld (withGroups (withSalt (repeated memorySize 0) s) g) none

@@ -1,0 +1,99 @@
+// The salt, the counts, the last time, the number of groups and the held group.
+ghost use mathlib.Core.Path.{_≡_};
+ghost use Prim.Native.Nat.{_<_};
+ghost use lib.ListN.{length};
+ghost use Rattle.octets.specs.Part.{equal};
+ghost use Rattle.memory.specs.Layout.{memorySize, saltSize, mostGroups};
+ghost use Rattle.memory.specs.Memory.{lastTime, withSalt, withCount, withNoCounts, withLastTime};
+ghost use Rattle.memory.specs.Memory as M;
+use crate::layout;
+
+// The number of groups.
+pub fn groups(memory: &[u8]) -> u32
+    requires { ⌜ length (now memory) ≡ memorySize ⌝ }
+    ensures { λ r. ⌜ r ≡ M.groups (now (memory .entry)) ⌝ }
+{
+    let byte = octets::load_u8(memory, layout::GROUPS_START);
+    byte as u32
+}
+
+// The held group, or NONE.
+pub fn held(memory: &[u8]) -> u32
+    requires { ⌜ length (now memory) ≡ memorySize ⌝ }
+    ensures { λ r. ⌜ r ≡ M.held (now (memory .entry)) ⌝ }
+{
+    let byte = octets::load_u8(memory, layout::HELD_START);
+    byte as u32
+}
+
+// The last time.
+pub fn last_time(memory: &[u8]) -> u32
+    requires { ⌜ length (now memory) ≡ memorySize ⌝ }
+    ensures { λ r. ⌜ r ≡ lastTime (now (memory .entry)) ⌝ }
+{
+    octets::load_u32(memory, layout::TIME_START)
+}
+
+// Sets the last time.
+pub fn set_last_time(memory: &mut [u8], time: u32)
+    requires { ⌜ length (now memory) ≡ memorySize ⌝ }
+    ensures { λ _. ⌜ now (memory .exit) ≡ withLastTime (now (memory .entry)) time ⌝ }
+{
+    octets::store_u32(memory, layout::TIME_START, time);
+}
+
+// The freshness count of a group.
+pub fn count(memory: &[u8], group: u32) -> u32
+    requires { ⌜ (length (now memory) ≡ memorySize) × (group < mostGroups) ⌝ }
+    ensures { λ r. ⌜ r ≡ M.count (now (memory .entry)) group ⌝ }
+{
+    let at = layout::COUNTS_START + layout::COUNT_SIZE * group as usize;
+    octets::load_u32(memory, at)
+}
+
+// Sets the freshness count of a group.
+pub fn set_count(memory: &mut [u8], group: u32, n: u32)
+    requires { ⌜ (length (now memory) ≡ memorySize) × (group < mostGroups) ⌝ }
+    ensures { λ _. ⌜ now (memory .exit) ≡ withCount (now (memory .entry)) group n ⌝ }
+{
+    let at = layout::COUNTS_START + layout::COUNT_SIZE * group as usize;
+    octets::store_u32(memory, at, n);
+}
+
+// Sets all counts to 0.
+pub fn clear_counts(memory: &mut [u8])
+    requires { ⌜ length (now memory) ≡ memorySize ⌝ }
+    ensures { λ _. ⌜ now (memory .exit) ≡ withNoCounts (now (memory .entry)) ⌝ }
+{
+    octets::fill(
+        memory,
+        layout::COUNTS_START,
+        layout::TIME_START - layout::COUNTS_START,
+        0,
+    );
+}
+
+// Copies the salt into out.
+pub fn copy_salt(memory: &[u8], out: &mut [u8])
+    requires { ⌜ (length (now memory) ≡ memorySize) × (length (now out) ≡ saltSize) ⌝ }
+    ensures { λ _. ⌜ now (out .exit) ≡ M.salt (now (memory .entry)) ⌝ }
+{
+    octets::copy(memory, layout::SALT_START, out, 0, layout::SALT_SIZE);
+}
+
+// Whether the salt is the one given.
+pub fn has_salt(memory: &[u8], salt: &[u8]) -> bool
+    requires { ⌜ length (now memory) ≡ memorySize ⌝ }
+    ensures { λ r. ⌜ r ≡ equal (M.salt (now (memory .entry))) (now (salt .entry)) ⌝ }
+{
+    let end = layout::SALT_START + layout::SALT_SIZE;
+    octets::equal(&memory[layout::SALT_START..end], salt)
+}
+
+// Sets the salt.
+pub fn set_salt(memory: &mut [u8], salt: &[u8])
+    requires { ⌜ (length (now memory) ≡ memorySize) × (length (now salt) ≡ saltSize) ⌝ }
+    ensures { λ _. ⌜ now (memory .exit) ≡ withSalt (now (memory .entry)) (now (salt .entry)) ⌝ }
+{
+    octets::copy(salt, 0, memory, layout::SALT_START, layout::SALT_SIZE);
+}

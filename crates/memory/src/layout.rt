@@ -1,0 +1,30 @@
+// Where each field stands, and how large it may be.
+pub const MEMORY_SIZE: usize = 616;
+
+pub const SALT_START: usize = 0;
+
+pub const SALT_SIZE: usize = 32;
+
+pub const COUNTS_START: usize = 32;
+
+pub const COUNT_SIZE: usize = 4;
+
+pub const TIME_START: usize = 96;
+
+pub const GROUPS_START: usize = 100;
+
+pub const HELD_START: usize = 101;
+
+pub const RESERVED_START: usize = 102;
+
+pub const RESERVED_SIZE: usize = 2;
+
+pub const PAGE_START: usize = 104;
+
+pub const MOST_GROUPS: u32 = 16;
+
+// In the place of a held group: no page is held.
+pub const NONE: u8 = 255;
+
+// A count at this limit is spent.
+pub const COUNT_LIMIT: u32 = 4294967294;
