@@ -2,7 +2,7 @@
 ghost use mathlib.Core.Path.{_≡_};
 ghost use mathlib.Core.Bool.{true};
 ghost use Prim.Native.Nat.{_≤_};
-ghost use Rattle.lockpage.specs.Update.{latestTime, withinLimit};
+ghost use Rattle.lockpage.specs.Update.{latestTime, expiryAt, withinLimit};
 ghost use Rattle.lockpage.specs.Update as U;
 use crate::Entry;
 use crate::State;
@@ -37,13 +37,20 @@ pub fn allowed(u: Update, s: State) -> bool
     }
 }
 
-// The word that the update stores, which may be too large.
+// The expiry of a lock that starts to count at a time; it may be too large for a word.
+fn expiry_at(time: u32, lock: u32) -> u64
+    ensures { λ r. ⌜ r ≡ expiryAt time lock ⌝ }
+{
+    time as u64 + lock as u64
+}
+
+// The word that the update stores, which may be too large too.
 fn new_word(u: Update, time: u32, e: Entry) -> u64
     ensures { λ r. ⌜ r ≡ (U.updated u time e) .word ⌝ }
 {
     match u {
         Update::Write(lock) => lock as u64,
-        Update::Unfreeze => time as u64 + e.word as u64,
+        Update::Unfreeze => expiry_at(time, e.word),
         Update::Increment(value) => e.word as u64 + value as u64,
     }
 }

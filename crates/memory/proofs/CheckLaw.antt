@@ -22,18 +22,28 @@ not-equal : (r : Bool) (a b : List ℕ) → r ≡ equal a b → not r ≡ true �
 not-equal true a b e n q = absurd (false≢true n)
 not-equal false a b e n q = absurd (false≢true (e ∙ equal-yes a b q))
 
-pub are-equal : (r : Bool) (a b : List ℕ) → r ≡ equal a b → not r ≡ false → a ≡ b
+are-equal : (r : Bool) (a b : List ℕ) → r ≡ equal a b → not r ≡ false → a ≡ b
 are-equal true a b e n = equal-true a b (sym e)
 are-equal false a b e n = absurd (false≢true (sym n))
 
-module _ (m : List ℕ) (r : Bool) where
-  pub counts-used : (g : ℕ) → g ≡ groups m
-      → r ≡ equal (part m (countStart g) (timeStart - countStart g)) (repeated (timeStart - countStart g) 0) → not r ≡ true
-      → false ≡ valid m
-  counts-used g eg e n = invalid m (λ v. not-equal r _ _ e n (subst (UnusedFrom m) (sym eg) (v .unused)))
+-- the counts that no group has, from place at on
+module _ (m : List ℕ) (r : Bool) (at : ℕ) (place : at ≡ countStart (groups m))
+    (e : r ≡ equal (part m at (timeStart - at)) (repeated (timeStart - at) 0)) where
+  pub counts-used : not r ≡ true → false ≡ valid m
+  counts-used n =
+      invalid m
+      (λ v. not-equal r _ _ e n (subst (λ (k : ℕ). part m k (timeStart - k) ≡ repeated (timeStart - k) 0) (sym place) (v .unused)))
 
-  pub reserved-used : r ≡ equal (part m reservedStart reservedSize) (repeated reservedSize 0) → not r ≡ true → false ≡ valid m
-  reserved-used e n = invalid m (λ v. not-equal r _ _ e n (v .reserved))
+  pub counts-unused : not r ≡ false → UnusedFrom m (groups m)
+  counts-unused n = subst (λ (k : ℕ). part m k (timeStart - k) ≡ repeated (timeStart - k) 0) place (are-equal r _ _ e n)
+
+-- the two bytes that are 0
+module _ (m : List ℕ) (r : Bool) (e : r ≡ equal (part m reservedStart reservedSize) (repeated reservedSize 0)) where
+  pub reserved-used : not r ≡ true → false ≡ valid m
+  reserved-used n = invalid m (λ v. not-equal r _ _ e n (v .reserved))
+
+  pub reserved-zero : not r ≡ false → ReservedZero m
+  reserved-zero n = are-equal r _ _ e n
 
 -- a held group that is none of the box's, or has no count
 module _ (m : List ℕ) (h : ℕ) (eh : h ≡ held m) (some : h ≡ none → ⊥) where

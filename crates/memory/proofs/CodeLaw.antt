@@ -5,7 +5,7 @@ use Prim.Native.Nat.{ℕ, _+_, _*_, _≤_, _<_}
 use native.Mathlib.Omega.{arith}
 use lib.ListN.{length, take, drop}
 use Rattle.octets.specs.Part.{part, replaced, repeated}
-use Rattle.octets.specs.Number.{withNumber}
+use Rattle.octets.specs.Number.{numberAt, withNumber}
 use Rattle.octets.proofs.PartLaw.{part-length}
 use Rattle.octets.proofs.RepeatedLaw.{repeated-length}
 use Rattle.octets.proofs.ReplacedLaw.{replaced-all, replaced-lent, part-copied, all-copied}
@@ -13,8 +13,17 @@ use Rattle.lockpage.specs.declared.Entry.{Entry}
 use Rattle.lockpage.specs.Size.{entrySize, entriesPerPage, pageSize}
 use Rattle.lockpage.specs.Page.{withEntry}
 use Rattle.lockpage.proofs.PageLaw.{withEntry-length}
-use Rattle.memory.specs.Layout.{memorySize, saltStart, saltSize, groupsStart, heldStart, groupSize, pageStart}
-use Rattle.memory.specs.Memory.{salt, none, heldPage, withSalt, withGroups, withHeld, withHeldPage, holding, holdingNone, formatted}
+use Rattle.memory.specs.Layout.{memorySize, saltStart, saltSize, countSize, countStart, groupsStart, heldStart, groupSize, pageStart}
+use Rattle.memory.specs.Memory.{salt, count, none, heldPage, withSalt, withCount, withGroups, withHeld, withHeldPage, holding, holdingNone, formatted}
+
+-- a count, at its place
+pub count-loaded : (m : List ℕ) (r at g : ℕ) → at ≡ countStart g → r ≡ numberAt m at countSize → r ≡ count m g
+unfolding count
+count-loaded m r at g ea er = er ∙ ap (λ (k : ℕ). numberAt m k countSize) ea
+
+pub count-stored : (m r : List ℕ) (at g n : ℕ) → at ≡ countStart g → r ≡ withNumber m at countSize n → r ≡ withCount m g n
+unfolding withCount
+count-stored m r at g n ea er = er ∙ ap (λ (k : ℕ). withNumber m k countSize n) ea
 
 module _ (m r : List ℕ) (size : length m ≡ memorySize) where
   pub salt-copied : (room : List ℕ) → length room ≡ saltSize → r ≡ replaced room 0 (part m saltStart saltSize) → r ≡ salt m

@@ -47,8 +47,7 @@ pub fn count(memory: &[u8], group: u32) -> u32
     requires { ⌜ (length (now memory) ≡ memorySize) × (group < mostGroups) ⌝ }
     ensures { λ r. ⌜ r ≡ M.count (now (memory .entry)) group ⌝ }
 {
-    let at = layout::COUNTS_START + layout::COUNT_SIZE * group as usize;
-    octets::load_u32(memory, at)
+    octets::load_u32(memory, layout::count_start(group))
 }
 
 // Sets the freshness count of a group.
@@ -56,8 +55,7 @@ pub fn set_count(memory: &mut [u8], group: u32, n: u32)
     requires { ⌜ (length (now memory) ≡ memorySize) × (group < mostGroups) ⌝ }
     ensures { λ _. ⌜ now (memory .exit) ≡ withCount (now (memory .entry)) group n ⌝ }
 {
-    let at = layout::COUNTS_START + layout::COUNT_SIZE * group as usize;
-    octets::store_u32(memory, at, n);
+    octets::store_u32(memory, layout::count_start(group), n);
 }
 
 // Sets all counts to 0.

@@ -1,4 +1,7 @@
 // Where each field stands, and how large it may be.
+ghost use mathlib.Core.Path.{_≡_};
+ghost use Rattle.memory.specs.Layout.{countStart};
+
 pub const MEMORY_SIZE: usize = 616;
 
 pub const SALT_START: usize = 0;
@@ -7,7 +10,7 @@ pub const SALT_SIZE: usize = 32;
 
 pub const COUNTS_START: usize = 32;
 
-pub const COUNT_SIZE: usize = 4;
+const COUNT_SIZE: usize = 4;
 
 pub const TIME_START: usize = 96;
 
@@ -28,3 +31,10 @@ pub const NONE: u8 = 255;
 
 // A count at this limit is spent.
 pub const COUNT_LIMIT: u32 = 4294967294;
+
+// Where a group's count stands.
+pub fn count_start(group: u32) -> usize
+    ensures { λ r. ⌜ r ≡ countStart group ⌝ }
+{
+    COUNTS_START + COUNT_SIZE * group as usize
+}

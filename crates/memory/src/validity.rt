@@ -22,7 +22,7 @@ pub fn valid(memory: &[u8]) -> bool
     if lockpage::updates::LATEST_TIME < fields::last_time(memory) {
         return false;
     }
-    let unused = layout::COUNTS_START + layout::COUNT_SIZE * groups as usize;
+    let unused = layout::count_start(groups);
     if !octets::filled(memory, unused, layout::TIME_START - unused, 0) {
         return false;
     }

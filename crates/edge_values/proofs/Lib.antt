@@ -1,0 +1,2 @@
+-- The one fact about the table.
+pub mod Computed

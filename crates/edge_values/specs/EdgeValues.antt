@@ -1,0 +1,57 @@
+-- The starred values of document 01, "Edge values", as far as they concern the address map, entries and states. Each row has what the
+-- definitions give on the left and what the paper says on the right, bytes in decimal. The one fact is in proofs/Computed.antt.
+use mathlib.Core.Path.{_≡_}
+use mathlib.Core.Bool.{true, false}
+use mathlib.Core.List.{List, [], _∷_}
+use Prim.Native.Nat.{ℕ}
+use lib.IntN.{pos}
+use Rattle.octets.specs.Number.{bytes}
+use Rattle.lockpage.specs.declared.Entry.{Entry}
+use Rattle.lockpage.specs.declared.State.the-variants.{Free, Counting}
+use Rattle.lockpage.specs.declared.Update.the-variants.{Write, Unfreeze, Increment}
+use Rattle.lockpage.specs.Size.{wordSize}
+use Rattle.lockpage.specs.Entry.{entryBytes}
+use Rattle.lockpage.specs.State.{state, timeLeft, timeLeftBytes}
+use Rattle.lockpage.specs.Update.{updated, withinLimit}
+use Rattle.lockpage.specs.Page.{blankEntry}
+use Rattle.addressing.specs.Map.{physical, pageBlock}
+
+-- "Lock 500 written at 1000", "Unfrozen at 1200", "Increment 100"
+abbrev pub written : Entry
+written = updated (Write 500) 1000 blankEntry
+
+abbrev pub unfrozen : Entry
+unfrozen = updated Unfreeze 1200 written
+
+abbrev pub grown : Entry
+grown = updated (Increment 100) 1200 unfrozen
+
+-- "Lock 0 unfrozen at 1200"
+abbrev pub unlocked : Entry
+unlocked = updated Unfreeze 1200 (updated (Write 0) 1000 blankEntry)
+
+pub record EdgeValues : Type 0 where
+  -- "63 lies at 63; 64 at 65; 1,023 at 1,038; the page of group 15 at 1,039."
+  pub block-63 : physical 63 ≡ 63
+  pub block-64 : physical 64 ≡ 65
+  pub block-1023 : physical 1023 ≡ 1038
+  pub page-15 : pageBlock 15 ≡ 1039
+  -- "F4 01 00 00 D0 07 00 00"
+  pub written-bytes : entryBytes written ≡ 244 ∷ 1 ∷ 0 ∷ 0 ∷ 208 ∷ 7 ∷ 0 ∷ 0 ∷ []
+  -- "A4 06 00 00 D1 07 00 00"
+  pub unfrozen-bytes : entryBytes unfrozen ≡ 164 ∷ 6 ∷ 0 ∷ 0 ∷ 209 ∷ 7 ∷ 0 ∷ 0 ∷ []
+  -- "08 07 00 00": the word
+  pub grown-word : bytes wordSize (grown .word) ≡ 8 ∷ 7 ∷ 0 ∷ 0 ∷ []
+  -- "Expiry 1700: at 1650, 50 left": counting
+  pub before-left : timeLeft 1650 unfrozen ≡ pos 50
+  pub before-state : state 1650 unfrozen ≡ Counting
+  -- "at 1700, 0 and free"
+  pub reached-left : timeLeft 1700 unfrozen ≡ pos 0
+  pub reached-state : state 1700 unfrozen ≡ Free
+  -- "at 1750, CE FF FF FF FF FF FF FF"
+  pub past-left : timeLeftBytes 1750 unfrozen ≡ 206 ∷ 255 ∷ 255 ∷ 255 ∷ 255 ∷ 255 ∷ 255 ∷ 255 ∷ []
+  -- "Lock 0 unfrozen at 1200 is free at 1200."
+  pub unlocked-state : state 1200 unlocked ≡ Free
+  -- "Lock 2,147,483,647 passes, 2,147,483,648 gets 10": here, the answer to question 10
+  pub longest-lock : withinLimit (updated (Write 2147483647) 1000 blankEntry) ≡ true
+  pub longer-lock : withinLimit (updated (Write 2147483648) 1000 blankEntry) ≡ false

@@ -1,0 +1,2 @@
+-- The starred edge values of document 01.
+pub mod EdgeValues
