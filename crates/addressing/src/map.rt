@@ -47,7 +47,7 @@ pub fn place_of(block: u32) -> usize
 pub fn physical(block: u32) -> usize
     ensures { λ r. ⌜ r ≡ M.physical block ⌝ }
 {
-    block as usize + (block / GROUP_DATA) as usize
+    block as usize + group_of(block) as usize
 }
 
 // The physical block of a group's page.

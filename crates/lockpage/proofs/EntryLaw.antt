@@ -18,13 +18,12 @@ use Rattle.lockpage.specs.Entry.{entry, entryBytes, entryOf, EntryFits, 
 pub entryBytes-length : (e : Entry) → length (entryBytes e) ≡ entrySize
 unfolding entryBytes
 entryBytes-length e =
-    length-append (bytes wordSize (e .word)) (bytes wordSize (e .stamp))
-    ∙ ap₂ _+_ (bytes-length wordSize (e .word)) (bytes-length wordSize (e .stamp))
+    length-append (bytes wordSize (e .word)) _ ∙ ap₂ _+_ (bytes-length wordSize (e .word)) (bytes-length wordSize _)
 
 pub entryBytes-are : (e : Entry) → AreBytes (entryBytes e)
 unfolding entryBytes
 entryBytes-are e =
-    below-append 256 (bytes wordSize (e .word)) (bytes wordSize (e .stamp)) (bytes-are wordSize (e .word)) (bytes-are wordSize (e .stamp))
+    below-append 256 (bytes wordSize (e .word)) _ (bytes-are wordSize (e .word)) (bytes-are wordSize _)
 
 -- ---- round trips
 

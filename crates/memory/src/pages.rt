@@ -60,8 +60,8 @@ fn zero_page(page: &mut [u8])
     requires { ⌜ length (now page) ≡ pageSize ⌝ }
     ensures { λ _. ⌜ now (page .exit) ≡ repeated pageSize 0 ⌝ }
 {
-    let zeros = [0u8; lockpage::PAGE_SIZE];
-    octets::copy(&zeros, 0, page, 0, lockpage::PAGE_SIZE);
+    let blank = [0u8; lockpage::PAGE_SIZE];
+    octets::copy(&blank, 0, page, 0, lockpage::PAGE_SIZE);
 }
 
 // Holds no page.

@@ -20,7 +20,8 @@ pub fn load_u8(s: &[u8], at: usize) -> u8
     requires { ⌜ at + 1 ≤ length (now s) ⌝ }
     ensures { λ r. ⌜ r ≡ numberAt (now (s .entry)) at 1 ⌝ }
 {
-    s[at]
+    let byte = s[at];
+    byte
 }
 
 // Stores n in the byte at a place.

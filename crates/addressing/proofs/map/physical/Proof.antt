@@ -1,12 +1,12 @@
--- `addressing::map::physical` meets its contract. Assumes nothing.
+-- `addressing::map::physical` meets its contract, by that of the group. Assumes nothing.
 use borrow.Author.Needs.{needs}
-use Rattle.addressing.specs.Map.{physical}
+use Rattle.addressing.specs.Map.{groupOf, physical}
 use Rattle.addressing.proofs.map.physical.Statement.{statement}
 use Rattle.addressing.proofs.map.physical.Tie as tie
 
 returns : tie.Need-returns
-unfolding physical
+unfolding groupOf physical
 returns c = search needs
 
 pub physical-spec : {M : Type 1} → statement M
-physical-spec = tie.close (tie.spec (λ c. search needs) (λ c. search needs) returns)
+physical-spec = tie.close (tie.spec (λ c κs. search needs) (λ c. search needs) (λ c. search needs) returns)

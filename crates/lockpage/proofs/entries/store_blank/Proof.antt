@@ -26,7 +26,7 @@ loop-again c =
       search needs,
       (
         search needs,
-        entries-step _ _ _ _ _ room (test .loop-test .taken) (loop .loop .inv .1 .1) (stored .store-entry .ensures),
+        entries-step _ _ _ _ _ room (omega (arith, test .loop-test .taken)) (loop .loop .inv .1 .1) (stored .store-entry .ensures),
       ),
     )
 
