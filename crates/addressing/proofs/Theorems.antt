@@ -3,9 +3,8 @@ use Prim.Native.Nat.{ℕ}
 use mathlib.Core.Path.{ap, _∙_}
 use native.Mathlib.Omega.{arith}
 use Rattle.addressing.specs.Map.{groupOf, placeOf, pagePlace, blockStart}
-use Rattle.addressing.specs.Claims.{Inside, Apart, Within, StretchesApart, StretchesCover, StoredInStretch}
+use Rattle.addressing.specs.Claims.{Inside, Apart, Within, StretchesApart, StretchesCover}
 use Rattle.addressing.proofs.MapLaw.{placeOf-below, physical-place, pageBlock-place, physical-below, pageBlock-below, physical-same, pageBlock-same, physical-page, blockStart-end, blockStart-group, groupStart-apart, in-stretch}
-use Rattle.addressing.proofs.DiskLaw as D
 
 pub inside : (groups : ℕ) → Inside groups
 inside groups =
@@ -31,7 +30,3 @@ stretches-apart = groupStart-apart
 pub stretches-cover : StretchesCover
 unfolding StretchesCover
 stretches-cover = in-stretch
-
-pub stored-in-stretch : StoredInStretch
-unfolding StoredInStretch
-stored-in-stretch disk g place new has h s = D.stored-in-stretch disk g has place h new s

@@ -1,11 +1,8 @@
 -- What a reader wants to know of the address map. Each claim is a type; its proof has the claim's name in proofs/Theorems.antt.
 use Prim.Native.Nat.{ℕ, _+_, _*_, _≤_, _<_}
 use mathlib.Core.Path.{_≡_}
-use mathlib.Core.List.{List}
-use lib.ListN.{length}
 use Rattle.lockpage.specs.Size.{blockSize}
 use Rattle.addressing.specs.Map.{groupBlocks, groupSize, diskSize, dataBlocks, groupOf, placeOf, pagePlace, physical, pageBlock, groupStart, blockStart}
-use Rattle.addressing.specs.Disk.{withBlock, stretch, withStretch, HasGroup}
 
 -- a box of G groups has 65 × G blocks: each data block and each page is one of them
 pub record Inside (groups : ℕ) : Type 0 where
@@ -39,8 +36,3 @@ pub record InStretch (groups k : ℕ) : Type 0 where
 
 unfoldable pub StretchesCover : Type 0
 StretchesCover = (groups k : ℕ) → k < diskSize groups → InStretch groups k
-
--- a block stored within a group's stretch, and the stretch put back, is that block stored on the disk
-unfoldable pub StoredInStretch : Type 0
-StoredInStretch = (disk : List ℕ) (g place : ℕ) (new : List ℕ) → HasGroup disk g → place < groupBlocks → length new ≡ blockSize
-    → withStretch disk g (withBlock (stretch disk g) place new) ≡ withBlock disk (groupBlocks * g + place) new

@@ -1,4 +1,3 @@
 -- The definitions that the contracts of addressing cite, and every crate above it.
 pub mod Map
-pub mod Disk
 pub mod Claims

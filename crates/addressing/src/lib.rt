@@ -1,6 +1,74 @@
-// Where data blocks, lock pages and groups lie on the disk. Only the map knows its constants; a group's functions get
-// its stretch of the disk and know only places within it; the disk's functions cut the stretch out and hand it on. The
+// The address map: where data blocks, lock pages and groups lie on the disk. Only this crate knows its constants. The
 // contracts cite specs/.
-pub mod disk;
-pub mod group;
-pub mod map;
+ghost use mathlib.Core.Path.{_≡_};
+ghost use Prim.Native.Nat.{_<_};
+ghost use Rattle.addressing.specs.Map.{groupBlocks, diskSize, dataBlocks, groupOf, placeOf, pageBlock, groupStart, blockStart};
+ghost use Rattle.addressing.specs.Map as M;
+
+pub const BLOCK_SIZE: usize = lockpage::PAGE_SIZE;
+
+// Data blocks in a group; the page's place after them.
+const GROUP_DATA: u32 = lockpage::ENTRIES_PER_PAGE as u32;
+
+pub const PAGE_PLACE: usize = lockpage::ENTRIES_PER_PAGE;
+
+const GROUP_BLOCKS: usize = PAGE_PLACE + 1;
+
+pub const GROUP_SIZE: usize = GROUP_BLOCKS * BLOCK_SIZE;
+
+// The bytes of a disk.
+pub fn disk_size(groups: u32) -> usize
+    ensures { λ r. ⌜ r ≡ diskSize groups ⌝ }
+{
+    groups as usize * GROUP_SIZE
+}
+
+// The number of data blocks.
+pub fn data_blocks(groups: u32) -> usize
+    ensures { λ r. ⌜ r ≡ dataBlocks groups ⌝ }
+{
+    PAGE_PLACE * groups as usize
+}
+
+// The group of a data block.
+pub fn group_of(block: u32) -> u32
+    ensures { λ r. ⌜ r ≡ groupOf block ⌝ }
+{
+    block / GROUP_DATA
+}
+
+// Its place in the group.
+pub fn place_of(block: u32) -> usize
+    ensures { λ r. ⌜ r ≡ placeOf block ⌝ }
+{
+    (block % GROUP_DATA) as usize
+}
+
+// Its physical block.
+pub fn physical(block: u32) -> usize
+    ensures { λ r. ⌜ r ≡ M.physical block ⌝ }
+{
+    block as usize + group_of(block) as usize
+}
+
+// The physical block of a group's page.
+pub fn page_block(group: u32) -> usize
+    ensures { λ r. ⌜ r ≡ pageBlock group ⌝ }
+{
+    GROUP_BLOCKS * group as usize + PAGE_PLACE
+}
+
+// The first byte of a group's stretch of the disk.
+pub fn group_start(group: u32) -> usize
+    ensures { λ r. ⌜ r ≡ groupStart group ⌝ }
+{
+    GROUP_SIZE * group as usize
+}
+
+// The first byte, within its group, of the block at a place.
+pub fn block_start(place: usize) -> usize
+    requires { ⌜ place < groupBlocks ⌝ }
+    ensures { λ r. ⌜ r ≡ blockStart place ⌝ }
+{
+    BLOCK_SIZE * place
+}

@@ -1,6 +1,5 @@
--- The memory of formatting: what its fields read, and that it is valid. Assumes nothing.
+-- The memory of formatting: what its fields read. Assumes nothing.
 use mathlib.Core.Path.{_≡_, refl, _∙_}
-use mathlib.Core.Bool.{true}
 use mathlib.Core.List.{List}
 use Prim.Native.Nat.{ℕ, _+_, _-_, _≤_, _<_}
 use native.Mathlib.Omega.{arith}
@@ -11,10 +10,8 @@ use Rattle.octets.proofs.NumberLaw.{numberAt-zeros}
 use Rattle.lockpage.specs.Size.{pageSize}
 use Rattle.memory.specs.Layout.{memorySize, saltSize, mostGroups, countStart, countSize, timeStart, timeSize, reservedStart, reservedSize, pageStart}
 use Rattle.memory.specs.Memory.{count, lastTime, none, heldPage, withSalt, withGroups, formatted}
-use Rattle.memory.specs.Valid.{valid}
 use Rattle.memory.specs.Claims.{Reads}
 use Rattle.memory.proofs.FieldLaw.{salt-in, salt-rest, groups-in, held-in, salt-set, groups-set, held-set}
-use Rattle.memory.proofs.ValidLaw.{from-reads}
 
 -- 616 zeros
 blank : List ℕ
@@ -48,19 +45,19 @@ module _ (g : ℕ) (s : List ℕ) (small : g < 256) (size : length s ≡ saltSiz
         page = c .page ∙ b .page ∙ a .page ∙ blank-part pageStart pageSize (omega arith);
       }
 
--- it is valid
-pub formatted-valid : (g : ℕ) (s : List ℕ) → 1 ≤ g → g ≤ mostGroups → length s ≡ saltSize → valid (formatted g s) ≡ true
+-- its counts from group g on, and the two bytes that are 0, are zeros
+pub formatted-zeros : (g : ℕ) (s : List ℕ) → length s ≡ saltSize → g ≤ mostGroups
+    → (part (formatted g s) (countStart g) (timeStart - countStart g) ≡ repeated (timeStart - countStart g) 0)
+    × (part (formatted g s) reservedStart reservedSize ≡ repeated reservedSize 0)
 unfolding formatted blank
-formatted-valid g s least most size =
+formatted-zeros g s size most =
     let a = salt-in blank blank-size s size in
     let b = groups-in (withSalt blank s) (a .size ∙ blank-size) g in
     let c = held-in (withGroups (withSalt blank s) g) (b .size ∙ a .size ∙ blank-size) none in
-    let rest : ℕ = timeStart - countStart g in
-    from-reads (formatted g s) s (λ k. 0) 0 g none (repeated pageSize 0) (formatted-reads g s (omega arith) size)
-    least most (λ n. absurd (n refl)) (omega arith)
-    (c .front (countStart g) rest (omega arith)
-    ∙ b .front (countStart g) rest (omega arith)
-    ∙ salt-rest blank blank-size s size (countStart g) rest (omega arith)
-    ∙ blank-part (countStart g) rest (omega arith))
-    (c .reserved ∙ b .reserved ∙ a .back reservedStart reservedSize (omega arith) ∙ blank-part reservedStart reservedSize (omega arith))
-    (λ n. absurd (n refl)) (λ e. refl)
+    let rest : ℕ = timeStart - countStart g in (
+      c .front (countStart g) rest (omega arith)
+          ∙ b .front (countStart g) rest (omega arith)
+          ∙ salt-rest blank blank-size s size (countStart g) rest (omega arith)
+          ∙ blank-part (countStart g) rest (omega arith),
+      c .reserved ∙ b .reserved ∙ a .back reservedStart reservedSize (omega arith) ∙ blank-part reservedStart reservedSize (omega arith),
+    )

@@ -10,7 +10,6 @@ use Rattle.lockpage.specs.Size.{pageSize}
 use Rattle.lockpage.specs.Update.{latestTime}
 use Rattle.memory.specs.Layout.{memorySize, saltSize, countSize, mostGroups, timeSize}
 use Rattle.memory.specs.Memory.{salt, count, lastTime, groups, held, none, heldPage, withSalt, withCount, withNoCounts, withLastTime, withHeldPage, holding, holdingNone, formatted}
-use Rattle.memory.specs.Valid.{countLimit, valid}
 
 -- ---- get after set: what each field reads
 
@@ -46,27 +45,3 @@ GetAfterSet = (m : List ℕ) → length m ≡ memorySize → Sets m
 unfoldable pub FormattedReads : Type 0
 FormattedReads = (g : ℕ) (s : List ℕ) → g < 256 → length s ≡ saltSize
     → Reads (formatted g s) s (λ k. 0) 0 g none (repeated pageSize 0)
-
--- ---- validity
-
--- a change of a valid memory, as a command makes it, leaves it valid
-pub record Keeps (m : List ℕ) : Type 0 where
-  pub salt-set : (s : List ℕ) → length s ≡ saltSize → valid (withSalt m s) ≡ true
-  pub time-set : (t : ℕ) → t ≤ latestTime → valid (withLastTime m t) ≡ true
-  -- the count of a group of the box; a held group's stays 1 to the limit
-  pub count-set : (g n : ℕ) → g < groups m → n < 256 ^ countSize → (held m ≡ g → (1 ≤ n) × (n ≤ countLimit)) → valid (withCount m g n) ≡ true
-  pub counts-cleared : held m ≡ none → valid (withNoCounts m) ≡ true
-  pub page-held : (g : ℕ) (p : List ℕ) → g < groups m → 1 ≤ count m g → count m g ≤ countLimit → length p ≡ pageSize
-      → valid (holding m g p) ≡ true
-  pub page-dropped : valid (holdingNone m) ≡ true
-
-unfoldable pub StaysValid : Type 0
-StaysValid = (m : List ℕ) → valid m ≡ true → Keeps m
-
--- the memory of formatting is valid
-unfoldable pub FormattedIsValid : Type 0
-FormattedIsValid = (g : ℕ) (s : List ℕ) → 1 ≤ g → g ≤ mostGroups → length s ≡ saltSize → valid (formatted g s) ≡ true
-
--- "counts of groups from G on .. are 0"
-unfoldable pub UnusedCounts : Type 0
-UnusedCounts = (m : List ℕ) (g : ℕ) → valid m ≡ true → groups m ≤ g → g < mostGroups → count m g ≡ 0

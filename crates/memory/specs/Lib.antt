@@ -1,5 +1,4 @@
 -- The definitions that the contracts of memory cite, and every crate above it.
 pub mod Layout
 pub mod Memory
-pub mod Valid
 pub mod Claims

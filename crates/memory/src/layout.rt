@@ -29,9 +29,6 @@ pub const MOST_GROUPS: u32 = 16;
 // In the place of a held group: no page is held.
 pub const NONE: u8 = 255;
 
-// A count at this limit is spent.
-pub const COUNT_LIMIT: u32 = 4294967294;
-
 // Where a group's count stands.
 pub fn count_start(group: u32) -> usize
     ensures { λ r. ⌜ r ≡ countStart group ⌝ }

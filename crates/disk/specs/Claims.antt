@@ -1,0 +1,13 @@
+-- What a reader wants to know of groups on the disk. The claim is a type; its proof has the claim's name in proofs/Theorems.antt.
+use Prim.Native.Nat.{ℕ, _+_, _*_, _<_}
+use mathlib.Core.Path.{_≡_}
+use mathlib.Core.List.{List}
+use lib.ListN.{length}
+use Rattle.lockpage.specs.Size.{blockSize}
+use Rattle.addressing.specs.Map.{groupBlocks}
+use Rattle.disk.specs.Disk.{withBlock, stretch, withStretch, HasGroup}
+
+-- a block stored within a group's stretch, and the stretch put back, is that block stored on the disk
+unfoldable pub StoredInStretch : Type 0
+StoredInStretch = (disk : List ℕ) (g place : ℕ) (new : List ℕ) → HasGroup disk g → place < groupBlocks → length new ≡ blockSize
+    → withStretch disk g (withBlock (stretch disk g) place new) ≡ withBlock disk (groupBlocks * g + place) new

@@ -1,0 +1,25 @@
+-- Blocks and groups in the bytes of a disk, after document 01, "Disk". Assumes nothing: these are definitions.
+use Prim.Native.Nat.{ℕ, _+_, _≤_}
+use mathlib.Core.List.{List}
+use lib.ListN.{length}
+use Rattle.octets.specs.Part.{part, replaced}
+use Rattle.lockpage.specs.Size.{blockSize}
+use Rattle.addressing.specs.Map.{groupSize, groupStart, blockStart}
+
+-- block p of a disk, or of a group; and it replaced
+unfoldable pub block : List ℕ → ℕ → List ℕ
+block l p = part l (blockStart p) blockSize
+
+unfoldable pub withBlock : List ℕ → ℕ → List ℕ → List ℕ
+withBlock l p new = replaced l (blockStart p) new
+
+-- "its own stretch of the disk": the bytes of group g; and they replaced
+unfoldable pub stretch : List ℕ → ℕ → List ℕ
+stretch disk g = part disk (groupStart g) groupSize
+
+unfoldable pub withStretch : List ℕ → ℕ → List ℕ → List ℕ
+withStretch disk g new = replaced disk (groupStart g) new
+
+-- the disk has group g
+unfoldable pub HasGroup : List ℕ → ℕ → Type 0
+HasGroup disk g = groupStart g + groupSize ≤ length disk

@@ -1,0 +1,3 @@
+-- The definitions that the contracts of disk cite, and every crate above it.
+pub mod Disk
+pub mod Claims

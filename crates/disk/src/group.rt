@@ -1,0 +1,42 @@
+// The blocks and the page of one group, by their places in its stretch of the disk.
+ghost use mathlib.Core.Path.{_≡_};
+ghost use Prim.Native.Nat.{_<_};
+ghost use lib.ListN.{length};
+ghost use Rattle.lockpage.specs.Size.{blockSize};
+ghost use Rattle.addressing.specs.Map.{groupBlocks, groupSize, pagePlace};
+ghost use Rattle.disk.specs.Disk.{block, withBlock};
+
+// Copies the block at a place into out.
+pub fn read_block(group: &[u8], place: usize, out: &mut [u8])
+    requires { ⌜ (place < groupBlocks) × ((length (now group) ≡ groupSize) × (length (now out) ≡ blockSize)) ⌝ }
+    ensures { λ _. ⌜ now (out .exit) ≡ block (now (group .entry)) place ⌝ }
+{
+    let from = addressing::block_start(place);
+    octets::copy(group, from, out, 0, addressing::BLOCK_SIZE);
+}
+
+// Stores the block at a place: its part of the stretch is lent on to be written.
+pub fn store_block(group: &mut [u8], place: usize, content: &[u8])
+    requires { ⌜ (place < groupBlocks) × ((length (now group) ≡ groupSize) × (length (now content) ≡ blockSize)) ⌝ }
+    ensures { λ _. ⌜ now (group .exit) ≡ withBlock (now (group .entry)) place (now (content .entry)) ⌝ }
+{
+    let from = addressing::block_start(place);
+    let to = from + addressing::BLOCK_SIZE;
+    octets::copy(content, 0, &mut group[from..to], 0, addressing::BLOCK_SIZE);
+}
+
+// Copies the page into out.
+pub fn read_page(group: &[u8], out: &mut [u8])
+    requires { ⌜ (length (now group) ≡ groupSize) × (length (now out) ≡ blockSize) ⌝ }
+    ensures { λ _. ⌜ now (out .exit) ≡ block (now (group .entry)) pagePlace ⌝ }
+{
+    read_block(group, addressing::PAGE_PLACE, out);
+}
+
+// Stores the page.
+pub fn store_page(group: &mut [u8], page: &[u8])
+    requires { ⌜ (length (now group) ≡ groupSize) × (length (now page) ≡ blockSize) ⌝ }
+    ensures { λ _. ⌜ now (group .exit) ≡ withBlock (now (group .entry)) pagePlace (now (page .entry)) ⌝ }
+{
+    store_block(group, addressing::PAGE_PLACE, page);
+}

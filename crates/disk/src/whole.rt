@@ -1,0 +1,48 @@
+// Data blocks and pages on the whole disk: a group's stretch is cut out and handed to the group's functions.
+ghost use mathlib.Core.Path.{_≡_};
+ghost use lib.ListN.{length};
+ghost use Rattle.lockpage.specs.Size.{blockSize};
+ghost use Rattle.addressing.specs.Map.{groupOf, physical, pageBlock};
+ghost use Rattle.disk.specs.Disk.{block as blockAt, withBlock, HasGroup};
+
+// Copies a data block into out.
+pub fn read_block(disk: &[u8], block: u32, out: &mut [u8])
+    requires { ⌜ HasGroup (now disk) (groupOf block) × (length (now out) ≡ blockSize) ⌝ }
+    ensures { λ _. ⌜ now (out .exit) ≡ blockAt (now (disk .entry)) (physical block) ⌝ }
+{
+    let from = addressing::group_start(addressing::group_of(block));
+    let to = from + addressing::GROUP_SIZE;
+    let place = addressing::place_of(block);
+    crate::group::read_block(&disk[from..to], place, out);
+}
+
+// Stores a data block.
+pub fn store_block(disk: &mut [u8], block: u32, content: &[u8])
+    requires { ⌜ HasGroup (now disk) (groupOf block) × (length (now content) ≡ blockSize) ⌝ }
+    ensures { λ _. ⌜ now (disk .exit) ≡ withBlock (now (disk .entry)) (physical block) (now (content .entry)) ⌝ }
+{
+    let from = addressing::group_start(addressing::group_of(block));
+    let to = from + addressing::GROUP_SIZE;
+    let place = addressing::place_of(block);
+    crate::group::store_block(&mut disk[from..to], place, content);
+}
+
+// Copies a group's page into out.
+pub fn read_page(disk: &[u8], group: u32, out: &mut [u8])
+    requires { ⌜ HasGroup (now disk) group × (length (now out) ≡ blockSize) ⌝ }
+    ensures { λ _. ⌜ now (out .exit) ≡ blockAt (now (disk .entry)) (pageBlock group) ⌝ }
+{
+    let from = addressing::group_start(group);
+    let to = from + addressing::GROUP_SIZE;
+    crate::group::read_page(&disk[from..to], out);
+}
+
+// Stores a group's page.
+pub fn store_page(disk: &mut [u8], group: u32, page: &[u8])
+    requires { ⌜ HasGroup (now disk) group × (length (now page) ≡ blockSize) ⌝ }
+    ensures { λ _. ⌜ now (disk .exit) ≡ withBlock (now (disk .entry)) (pageBlock group) (now (page .entry)) ⌝ }
+{
+    let from = addressing::group_start(group);
+    let to = from + addressing::GROUP_SIZE;
+    crate::group::store_page(&mut disk[from..to], page);
+}

@@ -1,0 +1,103 @@
+-- The check of validity as the code makes it: a clause that fails, and what is left to test once the others are passed.
+-- Assumes nothing.
+use mathlib.Core.Path.{_≡_, ap, sym, subst, _∙_}
+use mathlib.Core.Bool.{Bool, true, false, not, false≢true}
+use mathlib.Core.List.{List}
+use Prim.Native.Nat.{ℕ, _-_, _≤_, _<_}
+use native.Mathlib.Omega.{arith}
+use borrow.Author.Tests.{leb-true, le-leb}
+use lib.Dec.{leb}
+use lib.ListN.{length}
+use Rattle.octets.specs.Part.{part, repeated, equal}
+use Rattle.octets.proofs.EqualLaw.{equal-true, equal-yes}
+use Rattle.lockpage.specs.Size.{pageSize}
+use Rattle.lockpage.specs.Update.{latestTime}
+use Rattle.memory.specs.Layout.{memorySize, mostGroups, countStart, timeStart, reservedStart, reservedSize}
+use Rattle.memory.specs.Memory.{count, lastTime, groups, held, none, heldPage}
+use Rattle.validity.specs.Valid.{countLimit, valid}
+use Rattle.validity.proofs.ValidLaw.{UnusedFrom, ReservedZero, decided, invalid}
+
+-- a comparison that says no, and one that says yes
+not-equal : (r : Bool) (a b : List ℕ) → r ≡ equal a b → not r ≡ true → a ≡ b → ⊥
+not-equal true a b e n q = absurd (false≢true n)
+not-equal false a b e n q = absurd (false≢true (e ∙ equal-yes a b q))
+
+are-equal : (r : Bool) (a b : List ℕ) → r ≡ equal a b → not r ≡ false → a ≡ b
+are-equal true a b e n = equal-true a b (sym e)
+are-equal false a b e n = absurd (false≢true (sym n))
+
+-- the counts that no group has, from place at on
+module _ (m : List ℕ) (r : Bool) (at : ℕ) (place : at ≡ countStart (groups m))
+    (e : r ≡ equal (part m at (timeStart - at)) (repeated (timeStart - at) 0)) where
+  pub counts-used : not r ≡ true → false ≡ valid m
+  counts-used n =
+      invalid m
+      (λ v. not-equal r _ _ e n (subst (λ (k : ℕ). part m k (timeStart - k) ≡ repeated (timeStart - k) 0) (sym place) (v .unused)))
+
+  pub counts-unused : not r ≡ false → UnusedFrom m (groups m)
+  counts-unused n = subst (λ (k : ℕ). part m k (timeStart - k) ≡ repeated (timeStart - k) 0) place (are-equal r _ _ e n)
+
+-- the two bytes that are 0
+module _ (m : List ℕ) (r : Bool) (e : r ≡ equal (part m reservedStart reservedSize) (repeated reservedSize 0)) where
+  pub reserved-used : not r ≡ true → false ≡ valid m
+  reserved-used n = invalid m (λ v. not-equal r _ _ e n (v .reserved))
+
+  pub reserved-zero : not r ≡ false → ReservedZero m
+  reserved-zero n = are-equal r _ _ e n
+
+-- a held group that is none of the box's, or has no count
+module _ (m : List ℕ) (h : ℕ) (eh : h ≡ held m) (some : h ≡ none → ⊥) where
+  pub held-out : (g : ℕ) → g ≡ groups m → g ≤ h → false ≡ valid m
+  held-out g eg o = invalid m (λ v. omega (arith, v .group (λ e. some (eh ∙ e))))
+
+  pub held-uncounted : (n : ℕ) → n ≡ count m h → n < 1 → false ≡ valid m
+  held-uncounted n en o = invalid m (λ v. omega (arith, ap (count m) eh, v .counted (λ e. some (eh ∙ e))))
+
+-- the clauses on all but the held group
+pub record Passed (m : List ℕ) : Type 0 where
+  pub size : length m ≡ memorySize
+  pub least : 1 ≤ groups m
+  pub most : groups m ≤ mostGroups
+  pub time : lastTime m ≤ latestTime
+  pub unused : UnusedFrom m (groups m)
+  pub reserved : ReservedZero m
+
+module _ (m : List ℕ) (p : Passed m) where
+  -- with none held, the page decides
+  pub page-decides : (r : Bool) → held m ≡ none → r ≡ equal (heldPage m) (repeated pageSize 0) → r ≡ valid m
+  page-decides r h e =
+      decided m r
+      (λ t.
+      record {
+        size = p .size;
+        least = p .least;
+        most = p .most;
+        group = λ n. absurd (n h);
+        time = p .time;
+        unused = p .unused;
+        reserved = p .reserved;
+        counted = λ n. absurd (n h);
+        unspent = λ n. absurd (n h);
+        blank = λ n. equal-true (heldPage m) (repeated pageSize 0) (sym e ∙ t);
+      })
+      (λ v. e ∙ equal-yes (heldPage m) (repeated pageSize 0) (v .blank h))
+
+  -- with a group held, its count
+  pub count-decides : (h n : ℕ) → h ≡ held m → (h ≡ none → ⊥) → h < groups m → n ≡ count m h → 1 ≤ n → leb n countLimit ≡ valid m
+  count-decides h n eh some g en l =
+      let is : n ≡ count m (held m) = en ∙ ap (count m) eh in
+      decided m (leb n countLimit)
+      (λ t.
+      record {
+        size = p .size;
+        least = p .least;
+        most = p .most;
+        group = λ x. omega arith;
+        time = p .time;
+        unused = p .unused;
+        reserved = p .reserved;
+        counted = λ x. omega arith;
+        unspent = λ x. omega (arith, leb-true n countLimit t);
+        blank = λ x. absurd (some (eh ∙ x));
+      })
+      (λ v. le-leb n countLimit (omega (arith, v .unspent (λ e. some (eh ∙ e)))))

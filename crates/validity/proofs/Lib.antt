@@ -1,0 +1,4 @@
+-- The laws that proofs here and in the crates above cite, and the theorems of specs/Claims.antt.
+pub mod ValidLaw
+pub mod CheckLaw
+pub mod Theorems

@@ -1,0 +1,234 @@
+-- Laws of validity: what a valid memory says, clause by clause, and which changes keep it. Assumes nothing.
+use mathlib.Core.Path.{_≡_, refl, ap, sym, subst, _∙_}
+use mathlib.Core.Bool.{Bool, true, false, _&&_, _||_, not, false≢true}
+use mathlib.Core.Logic.{inr}
+use mathlib.Core.List.{List}
+use Prim.Native.Nat.{ℕ, _+_, _*_, _-_, _^_, _≤_, _<_}
+use native.Mathlib.Omega.{arith}
+use borrow.Author.Tests.{eqb-true, eqb-false, leb-true, ltb-true, eq-eqb, ne-eqb, le-leb, lt-ltb}
+use lib.Dec.{eqb}
+use lib.ListN.{length}
+use Rattle.octets.specs.Part.{part, repeated}
+use Rattle.octets.specs.Number.{bytes, withNumber}
+use Rattle.octets.proofs.EqualLaw.{equal-true, equal-yes}
+use Rattle.octets.proofs.PartLaw.{part-part}
+use Rattle.octets.proofs.RepeatedLaw.{repeated-length, repeated-part}
+use Rattle.octets.proofs.ReplacedLaw.{part-other}
+use Rattle.octets.proofs.NumberLaw.{bytes-length, numberAt-zeros}
+use Rattle.lockpage.specs.Size.{pageSize}
+use Rattle.lockpage.specs.Update.{latestTime}
+use Rattle.memory.specs.Layout.{memorySize, saltSize, countSize, mostGroups, countStart, timeStart, reservedStart, reservedSize}
+use Rattle.memory.specs.Memory.{salt, count, lastTime, groups, held, none, heldPage, withSalt, withCount, withNoCounts, withLastTime, holding, holdingNone, formatted}
+use Rattle.validity.specs.Valid.{countLimit, every, valid}
+use Rattle.memory.specs.Claims.{Reads, changed}
+use Rattle.memory.proofs.FormatLaw.{formatted-reads, formatted-zeros}
+use Rattle.memory.proofs.FieldLaw.{InFront, InBack, salt-in, salt-rest, count-in, counts-in, time-in, holding-in, salt-set, count-set, counts-zero, counts-cleared, time-set, page-held, page-dropped}
+
+-- the counts from group g on are zeros
+abbrev pub UnusedFrom : List ℕ → ℕ → Type 0
+UnusedFrom m g = part m (countStart g) (timeStart - countStart g) ≡ repeated (timeStart - countStart g) 0
+
+abbrev pub ReservedZero : List ℕ → Type 0
+ReservedZero m = part m reservedStart reservedSize ≡ repeated reservedSize 0
+
+-- the clauses, as facts
+pub record Valid (m : List ℕ) : Type 0 where
+  pub size : length m ≡ memorySize
+  pub least : 1 ≤ groups m
+  pub most : groups m ≤ mostGroups
+  pub group : (held m ≡ none → ⊥) → held m < groups m
+  pub time : lastTime m ≤ latestTime
+  pub unused : UnusedFrom m (groups m)
+  pub reserved : ReservedZero m
+  pub counted : (held m ≡ none → ⊥) → 1 ≤ count m (held m)
+  pub unspent : (held m ≡ none → ⊥) → count m (held m) ≤ countLimit
+  pub blank : held m ≡ none → heldPage m ≡ repeated pageSize 0
+
+-- ---- the clauses and the test
+
+both : (a b : Bool) → (a && b) ≡ true → (a ≡ true) × (b ≡ true)
+both true b e = (refl, e)
+both false b e = absurd (false≢true e)
+
+and-yes : (a b : Bool) → a ≡ true → b ≡ true → (a && b) ≡ true
+and-yes true b ea eb = eb
+and-yes false b ea eb = ea
+
+or-else : (a b : Bool) → (a || b) ≡ true → a ≡ false → b ≡ true
+or-else true b e f = absurd (false≢true (sym f))
+or-else false b e f = e
+
+or-yes : (a b : Bool) → (a ≡ false → b ≡ true) → (a || b) ≡ true
+or-yes true b f = refl
+or-yes false b f = f refl
+
+not-yes : (a : Bool) → a ≡ true → not a ≡ false
+not-yes true e = refl
+not-yes false e = absurd (false≢true e)
+
+not-no : (a : Bool) → not a ≡ false → a ≡ true
+not-no true e = refl
+not-no false e = absurd (false≢true (sym e))
+
+module _ (m : List ℕ) where
+  pub facts : valid m ≡ true → Valid m
+  unfolding valid every
+  facts e =
+      let a = both _ _ e in
+      let b = both _ _ (a .1) in
+      let c = both _ _ (b .1) in
+      let d = both _ _ (c .1) in
+      let f = both _ _ (d .1) in
+      let g = both _ _ (f .1) in
+      let h = both _ _ (g .1) in
+      let i = both _ _ (h .1) in
+      let j = both _ _ (i .1) in
+      let k = both _ _ (j .1) in
+      record {
+        size = eqb-true (length m) memorySize (a .0);
+        least = leb-true 1 (groups m) (b .0);
+        most = leb-true (groups m) mostGroups (c .0);
+        group = λ n. ltb-true (held m) (groups m) (or-else _ _ (d .0) (ne-eqb (held m) none n));
+        time = leb-true (lastTime m) latestTime (f .0);
+        unused = equal-true _ _ (g .0);
+        reserved = equal-true _ _ (h .0);
+        counted = λ n. leb-true 1 (count m (held m)) (or-else _ _ (i .0) (ne-eqb (held m) none n));
+        unspent = λ n. leb-true (count m (held m)) countLimit (or-else _ _ (j .0) (ne-eqb (held m) none n));
+        blank = λ n. equal-true _ _ (or-else _ _ (k .0) (not-yes _ (eq-eqb (held m) none n)));
+      }
+
+  pub is-valid : Valid m → valid m ≡ true
+  unfolding valid every
+  is-valid v =
+      and-yes _ _ (eq-eqb (length m) memorySize (v .size))
+      (and-yes _ _ (le-leb 1 (groups m) (v .least))
+      (and-yes _ _ (le-leb (groups m) mostGroups (v .most))
+      (and-yes _ _ (or-yes _ _ (λ n. lt-ltb (held m) (groups m) (v .group (eqb-false (held m) none n))))
+      (and-yes _ _ (le-leb (lastTime m) latestTime (v .time))
+      (and-yes _ _ (equal-yes _ _ (v .unused))
+      (and-yes _ _ (equal-yes _ _ (v .reserved))
+      (and-yes _ _ (or-yes _ _ (λ n. le-leb 1 (count m (held m)) (v .counted (eqb-false (held m) none n))))
+      (and-yes _ _ (or-yes _ _ (λ n. le-leb (count m (held m)) countLimit (v .unspent (eqb-false (held m) none n))))
+      (and-yes _ _ (or-yes _ _ (λ n. equal-yes _ _ (v .blank (eqb-true (held m) none (not-no _ n))))) refl)))))))))
+
+  -- a test that has the facts' truth is the test
+  pub decided : (b : Bool) → (b ≡ true → Valid m) → (Valid m → b ≡ true) → b ≡ valid m
+  decided true f g = sym (is-valid (f refl))
+  decided false f g = go (valid m) refl
+    where
+      go : (t : Bool) → valid m ≡ t → false ≡ t
+      go true e = g (facts e)
+      go false e = refl
+
+  pub invalid : (Valid m → ⊥) → false ≡ valid m
+  invalid n = decided false (λ e. absurd (false≢true e)) (λ v. absurd (n v))
+
+-- ---- what keeps it
+
+-- a memory is valid by what its fields read
+pub from-reads : (m s : List ℕ) (c : ℕ → ℕ) (t g h : ℕ) (p : List ℕ) → Reads m s c t g h p
+    → 1 ≤ g → g ≤ mostGroups → ((h ≡ none → ⊥) → h < g) → t ≤ latestTime → UnusedFrom m g → ReservedZero m
+    → ((h ≡ none → ⊥) → (1 ≤ c h) × (c h ≤ countLimit)) → (h ≡ none → p ≡ repeated pageSize 0) → valid m ≡ true
+from-reads m s c t g h p r least most group time unused reserved counted blank =
+    is-valid m
+    (record {
+      size = r .size;
+      least = subst (λ (x : ℕ). 1 ≤ x) (sym (r .groups)) least;
+      most = subst (λ (x : ℕ). x ≤ mostGroups) (sym (r .groups)) most;
+      group = λ n. omega (arith, r .groups, r .held, group (other n));
+      time = subst (λ (x : ℕ). x ≤ latestTime) (sym (r .time)) time;
+      unused = subst (UnusedFrom m) (sym (r .groups)) unused;
+      reserved = reserved;
+      counted = λ n. subst (λ (x : ℕ). 1 ≤ x) (sym (count-is n)) (counted (other n) .0);
+      unspent = λ n. subst (λ (x : ℕ). x ≤ countLimit) (sym (count-is n)) (counted (other n) .1);
+      blank = λ n. r .page ∙ blank (sym (r .held) ∙ n);
+    })
+  where
+    other : (held m ≡ none → ⊥) → h ≡ none → ⊥
+    other n e = n (r .held ∙ e)
+
+    count-is : (held m ≡ none → ⊥) → count m (held m) ≡ c h
+    count-is n = ap (count m) (r .held) ∙ r .count h (omega (arith, group (other n)))
+
+module _ (m : List ℕ) (v : Valid m) where
+  -- a held group's count
+  held-count : (held m ≡ none → ⊥) → (1 ≤ count m (held m)) × (count m (held m) ≤ countLimit)
+  held-count n = (v .counted n, v .unspent n)
+
+  -- after a change in the front, and in the back
+  front-reserved : (n : List ℕ) → InFront m n → ReservedZero n
+  front-reserved n i = i .back reservedStart reservedSize (omega arith) ∙ v .reserved
+
+  back-unused : (n : List ℕ) → InBack m n → UnusedFrom n (groups m)
+  back-unused n i = i .front (countStart (groups m)) (timeStart - countStart (groups m)) (omega (arith, v .most)) ∙ v .unused
+
+  pub valid-salt : (s : List ℕ) → length s ≡ saltSize → valid (withSalt m s) ≡ true
+  valid-salt s l =
+      from-reads (withSalt m s) s (count m) (lastTime m) (groups m) (held m) (heldPage m) (salt-set m (v .size) s l)
+      (v .least) (v .most) (v .group) (v .time)
+      (salt-rest m (v .size) s l (countStart (groups m)) (timeStart - countStart (groups m)) (omega arith) ∙ v .unused)
+      (front-reserved (withSalt m s) (salt-in m (v .size) s l)) held-count (v .blank)
+
+  pub valid-time : (t : ℕ) → t ≤ latestTime → valid (withLastTime m t) ≡ true
+  valid-time t h =
+      let i = time-in m (v .size) t in
+      from-reads (withLastTime m t) (salt m) (count m) t (groups m) (held m) (heldPage m) (time-set m (v .size) t (omega arith))
+      (v .least) (v .most) (v .group) h (back-unused (withLastTime m t) i) (i .reserved ∙ v .reserved) held-count (v .blank)
+
+  pub valid-count : (g n : ℕ) → g < groups m → n < 256 ^ countSize → (held m ≡ g → (1 ≤ n) × (n ≤ countLimit))
+      → valid (withCount m g n) ≡ true
+  unfolding withCount withNumber
+  valid-count g n h s k =
+      from-reads (withCount m g n) (salt m) (changed (count m) g n) (lastTime m) (groups m) (held m) (heldPage m)
+      (count-set m (v .size) g n (omega (arith, v .most)) s)
+      (v .least) (v .most) (v .group) (v .time)
+      (part-other m (countStart g) (bytes countSize n) (countStart (groups m)) (timeStart - countStart (groups m))
+      (omega (arith, v .size, v .most, bytes-length countSize n)) (inr (omega (arith, bytes-length countSize n))) ∙ v .unused)
+      (front-reserved (withCount m g n) (count-in m (v .size) g n (omega (arith, v .most))))
+      (λ x. go x (eqb (held m) g) refl) (v .blank)
+    where
+      go : (held m ≡ none → ⊥) → (b : Bool) → eqb (held m) g ≡ b
+          → (1 ≤ elim b [ true ↦ n | false ↦ count m (held m) ]) × (elim b [ true ↦ n | false ↦ count m (held m) ] ≤ countLimit)
+      go x true e = k (eqb-true (held m) g e)
+      go x false e = held-count x
+
+  pub valid-no-counts : held m ≡ none → valid (withNoCounts m) ≡ true
+  valid-no-counts e =
+      from-reads (withNoCounts m) (salt m) (λ k. 0) (lastTime m) (groups m) (held m) (heldPage m) (counts-cleared m (v .size))
+      (v .least) (v .most) (v .group) (v .time) (counts-zero m (v .size) (groups m) (v .most))
+      (front-reserved (withNoCounts m) (counts-in m (v .size))) (λ n. absurd (n e)) (v .blank)
+
+  pub valid-holding : (g : ℕ) (p : List ℕ) → g < groups m → 1 ≤ count m g → count m g ≤ countLimit → length p ≡ pageSize
+      → valid (holding m g p) ≡ true
+  valid-holding g p h least most l =
+      let i = holding-in m (v .size) g p l in
+      from-reads (holding m g p) (salt m) (count m) (lastTime m) (groups m) g p (page-held m (v .size) g p (omega (arith, v .most)) l)
+      (v .least) (v .most) (λ n. h) (v .time) (back-unused (holding m g p) i) (i .reserved ∙ v .reserved)
+      (λ n. (least, most)) (λ e. absurd (omega (arith, v .most)))
+
+  pub valid-none : valid (holdingNone m) ≡ true
+  unfolding holdingNone
+  valid-none =
+      let i = holding-in m (v .size) none (repeated pageSize 0) (repeated-length pageSize 0) in
+      from-reads (holdingNone m) (salt m) (count m) (lastTime m) (groups m) none (repeated pageSize 0) (page-dropped m (v .size))
+      (v .least) (v .most) (λ n. absurd (n refl)) (v .time) (back-unused (holdingNone m) i) (i .reserved ∙ v .reserved)
+      (λ n. absurd (n refl)) (λ e. refl)
+
+  -- a count that no group of the box has
+  pub unused-count : (g : ℕ) → groups m ≤ g → g < mostGroups → count m g ≡ 0
+  unfolding count
+  unused-count g h k =
+      let from : ℕ = countStart (groups m) in
+      let place : from + countSize * (g - groups m) ≡ countStart g = omega arith in
+      numberAt-zeros m (countStart g) countSize
+      (ap (λ (at : ℕ). part m at countSize) (sym place)
+      ∙ sym (part-part m from (timeStart - from) (countSize * (g - groups m)) countSize (omega arith))
+      ∙ ap (λ (l : List ℕ). part l (countSize * (g - groups m)) countSize) (v .unused)
+      ∙ repeated-part (timeStart - from) 0 (countSize * (g - groups m)) countSize (omega arith))
+
+-- the memory of formatting
+pub valid-formatted : (g : ℕ) (s : List ℕ) → 1 ≤ g → g ≤ mostGroups → length s ≡ saltSize → valid (formatted g s) ≡ true
+valid-formatted g s least most size =
+    let zeros = formatted-zeros g s size most in
+    from-reads (formatted g s) s (λ k. 0) 0 g none (repeated pageSize 0) (formatted-reads g s (omega arith) size)
+    least most (λ n. absurd (n refl)) (omega arith) (zeros .0) (zeros .1) (λ n. absurd (n refl)) (λ e. refl)

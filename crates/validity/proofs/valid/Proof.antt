@@ -1,0 +1,75 @@
+-- `validity::valid` meets its contract, clause by clause. Assumes nothing.
+use borrow.Author.Needs.{needs}
+use mathlib.Core.List.{List}
+use Prim.Native.Nat.{ℕ}
+use mathlib.Core.Path.{_≡_, ap, sym, _∙_}
+use native.Mathlib.Omega.{arith}
+use Rattle.memory.specs.Layout.{countStart}
+use Rattle.memory.specs.Memory.{groups}
+use Rattle.validity.proofs.ValidLaw.{invalid}
+use Rattle.validity.proofs.CheckLaw.{Passed, counts-used, counts-unused, reserved-used, reserved-zero, held-out, held-uncounted, page-decides, count-decides}
+use Rattle.validity.proofs.valid.Statement.{statement}
+use Rattle.validity.proofs.valid.Tie as tie
+
+-- the memory, and where the counts that no group has start
+abbrev bytes : tie.After-count-start → List ℕ
+bytes c = c .before .before .before .before .before .before .before .before .args .memory .now
+
+unused-start : (c : tie.After-count-start) → c .count-start .result ≡ countStart (groups (bytes c))
+unused-start c = c .count-start .ensures ∙ ap (λ (g : ℕ). countStart g) (c .before .before .before .before .before .groups .ensures)
+
+unused : tie.Need-returns-5
+unused c = counts-used _ _ _ (unused-start (c .before .before)) (c .before .filled .ensures) (c .if5 .taken)
+
+-- the clauses on all but the held group, once they are passed
+passed : (c : tie.Else6) → Passed (bytes (c .before .before .before .before))
+passed c =
+    let five = c .before .before in
+    let placed = five .before .before in
+    let four = placed .before in
+    let three = four .before .before in
+    let two = three .before in
+    let groups = two .before .groups .ensures in
+    record {
+      size = omega (arith, two .before .before .if1 .left);
+      least = omega (arith, two .if2 .left, groups);
+      most = omega (arith, three .if3 .left, groups);
+      time = omega (arith, four .if4 .left, four .before .last-time .ensures);
+      unused = counts-unused _ _ _ (unused-start placed) (five .before .filled .ensures) (five .if5 .left);
+      reserved = reserved-zero _ _ (c .before .filled2 .ensures) (c .if6 .left);
+    }
+
+page : tie.Need-returns-7
+page c =
+    let held = c .before .before in
+    page-decides _ (passed (held .before)) _ (sym (held .held .ensures) ∙ c .before .if7 .taken) (c .is-zero .ensures)
+
+-- the held group, once it is not none
+out : tie.Need-returns-8
+out c =
+    let held = c .before .before in
+    let placed = held .before .before .before .before .before in
+    held-out _ _ (held .held .ensures) (c .before .if7 .left) _ (placed .before .before .before .before .before .groups .ensures) (omega (arith, c .if8 .taken))
+
+uncounted : tie.Need-returns-9
+uncounted c =
+    let held = c .before .before .before .before in
+    held-uncounted _ _ (held .held .ensures) (c .before .before .before .if7 .left) _ (c .before .count .ensures) (omega (arith, c .if9 .taken))
+
+count : tie.Need-returns-10
+count c =
+    let eight = c .before .before in
+    let held = eight .before .before in
+    let placed = held .before .before .before .before .before in
+    count-decides _ (passed (held .before)) _ _ (held .held .ensures) (eight .before .if7 .left)
+    (omega (arith, eight .if8 .left, placed .before .before .before .before .before .groups .ensures)) (c .before .count .ensures) (omega (arith, c .if9 .left))
+
+pub valid-spec : {M : Type 1} → statement M
+valid-spec =
+    tie.close
+    (tie.spec (λ c. invalid _ (λ v. omega (arith, c .if1 .taken, v .size))) (λ c κs. search needs)
+    (λ c. invalid _ (λ v. omega (arith, c .if2 .taken, c .before .groups .ensures, v .least)))
+    (λ c. invalid _ (λ v. omega (arith, c .if3 .taken, c .before .before .groups .ensures, v .most))) (λ c κs. search needs)
+    (λ c. invalid _ (λ v. omega (arith, c .if4 .taken, c .before .last-time .ensures, v .time))) (λ c κs. search needs) (λ c. search needs)
+    (λ c κs. search needs) unused (λ c κs. search needs) (λ c. reserved-used _ _ (c .before .filled2 .ensures) (c .if6 .taken))
+    (λ c κs. search needs) (λ c. search needs) (λ c κs. search needs) page out (λ c κs. search needs) uncounted count)
