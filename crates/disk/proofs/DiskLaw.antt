@@ -1,17 +1,16 @@
 -- Laws of blocks and stretches: what is read after a store at the same place and at another, lengths, bytes, a block stored within a
 -- stretch. Assumes nothing.
-use mathlib.Core.Path.{_≡_, ap, ap₂, sym, _∙_}
+use mathlib.Core.Path.{_≡_, ap, sym, _∙_}
 use mathlib.Core.Logic.{_⊎_, inl, inr}
-use mathlib.Core.List.{List, _++_}
-use Prim.Native.Nat.{ℕ, _+_, _*_, _-_, _≤_, _<_}
+use mathlib.Core.List.{List}
+use Prim.Native.Nat.{ℕ, _+_, _*_, _≤_, _<_}
 use native.Mathlib.Omega.{arith}
-use lib.ListN.{length, take, drop, length-drop}
-use lib.Seq.{length-take-le}
+use lib.ListN.{length}
 use Rattle.octets.specs.Part.{AreBytes, part, replaced}
 use Rattle.octets.proofs.OrderLaw.{apart}
 use Rattle.octets.proofs.BelowLaw.{below-part, below-replaced}
 use Rattle.octets.proofs.PartLaw.{part-length, part-part}
-use Rattle.octets.proofs.ReplacedLaw.{replaced-length, part-same, part-other, replaced-all, replaced-again, replaced-lent, replaced-within, part-copied, all-copied}
+use Rattle.octets.proofs.ReplacedLaw.{replaced-length, part-same, part-other, replaced-again, replaced-within}
 use Rattle.lockpage.specs.Size.{blockSize}
 use Rattle.addressing.specs.Map.{groupBlocks, groupSize, diskSize, dataBlocks, groupOf, groupStart, blockStart}
 use Rattle.disk.specs.Disk.{block, withBlock, stretch, withStretch, HasGroup}

@@ -1,21 +1,17 @@
 -- Parts that are cut out and lent, as the code makes them: a block copied, a block's part that came back filled, a stretch that was
 -- cut out, handed on and came back. Assumes nothing.
 use mathlib.Core.Path.{_≡_, ap, ap₂, sym, _∙_}
-use mathlib.Core.Logic.{_⊎_, inl, inr}
 use mathlib.Core.List.{List, _++_}
 use Prim.Native.Nat.{ℕ, _+_, _*_, _-_, _≤_, _<_}
 use native.Mathlib.Omega.{arith}
 use lib.ListN.{length, take, drop, length-drop}
 use lib.Seq.{length-take-le}
-use Rattle.octets.specs.Part.{AreBytes, part, replaced}
-use Rattle.octets.proofs.OrderLaw.{apart}
-use Rattle.octets.proofs.BelowLaw.{below-part, below-replaced}
-use Rattle.octets.proofs.PartLaw.{part-length, part-part}
-use Rattle.octets.proofs.ReplacedLaw.{replaced-length, part-same, part-other, replaced-all, replaced-again, replaced-lent, replaced-within, part-copied, all-copied}
+use Rattle.octets.specs.Part.{part, replaced}
+use Rattle.octets.proofs.ReplacedLaw.{replaced-all, replaced-lent, part-copied, all-copied}
 use Rattle.lockpage.specs.Size.{blockSize}
-use Rattle.addressing.specs.Map.{groupBlocks, groupSize, diskSize, dataBlocks, groupOf, groupStart, blockStart}
+use Rattle.addressing.specs.Map.{groupBlocks, groupSize, groupStart, blockStart}
 use Rattle.disk.specs.Disk.{block, withBlock, stretch, withStretch, HasGroup}
-use Rattle.addressing.proofs.MapLaw.{blockStart-below, blockStart-end, blockStart-group, blockStart-place, groupStart-apart, groupStart-below, groupOf-below}
+use Rattle.addressing.proofs.MapLaw.{blockStart-place}
 use Rattle.disk.proofs.DiskLaw.{withBlock-length, stretch-length, block-in-stretch, stored-in-stretch}
 
 -- a block copied into a room of its size

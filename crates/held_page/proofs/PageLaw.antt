@@ -5,7 +5,7 @@ use Prim.Native.Nat.{ℕ, _+_, _*_, _≤_, _<_}
 use native.Mathlib.Omega.{arith}
 use lib.ListN.{length, take, drop}
 use Rattle.octets.specs.Part.{part, replaced, repeated}
-use Rattle.octets.specs.Number.{numberAt, withNumber}
+use Rattle.octets.specs.Number.{withNumber}
 use Rattle.octets.proofs.PartLaw.{part-length}
 use Rattle.octets.proofs.RepeatedLaw.{repeated-length}
 use Rattle.octets.proofs.ReplacedLaw.{replaced-all, replaced-lent, part-copied, all-copied}
@@ -13,8 +13,8 @@ use Rattle.lockpage.specs.declared.Entry.{Entry}
 use Rattle.lockpage.specs.Size.{entrySize, entriesPerPage, pageSize}
 use Rattle.lockpage.specs.Page.{withEntry}
 use Rattle.lockpage.proofs.PageLaw.{withEntry-length}
-use Rattle.memory.specs.Layout.{memorySize, saltStart, saltSize, countSize, countStart, groupsStart, heldStart, groupSize, pageStart}
-use Rattle.memory.specs.Memory.{salt, count, none, heldPage, withSalt, withCount, withGroups, withHeld, withHeldPage, holding, holdingNone, formatted}
+use Rattle.memory.specs.Layout.{memorySize, heldStart, byteSize, pageStart}
+use Rattle.memory.specs.Memory.{none, heldPage, withHeld, withHeldPage, holding, holdingNone}
 
 module _ (m r : List ℕ) (size : length m ≡ memorySize) where
   pub page-copied : (room : List ℕ) → length room ≡ pageSize → r ≡ replaced room 0 (part m pageStart pageSize) → r ≡ heldPage m
@@ -32,7 +32,7 @@ module _ (m r : List ℕ) (size : length m ≡ memorySize) where
       ∙ ap (replaced m pageStart) er
 
 -- the held group stored, then its page
-pub page-stored : (m n r : List ℕ) (g : ℕ) (p : List ℕ) → length p ≡ pageSize → n ≡ withNumber m heldStart groupSize g
+pub page-stored : (m n r : List ℕ) (g : ℕ) (p : List ℕ) → length p ≡ pageSize → n ≡ withNumber m heldStart byteSize g
     → r ≡ replaced n pageStart (part p 0 pageSize) → r ≡ holding m g p
 unfolding holding withHeld withHeldPage
 page-stored m n r g p l en er = all-copied n p r pageStart pageSize l er ∙ ap (λ (x : List ℕ). replaced x pageStart p) en
@@ -44,7 +44,7 @@ zeros-stored p r l e =
     ∙ replaced-all p (repeated pageSize 0) (repeated-length pageSize 0 ∙ sym l)
 
 -- none stored as the held group, then the page's part lent and come back zeros
-pub page-cleared : (m n r : List ℕ) → n ≡ withNumber m heldStart groupSize none → r ≡ repeated pageSize 0
+pub page-cleared : (m n r : List ℕ) → n ≡ withNumber m heldStart byteSize none → r ≡ repeated pageSize 0
     → take pageStart n ++ (r ++ drop pageSize (drop pageStart n)) ≡ holdingNone m
 unfolding holdingNone holding withHeld withHeldPage
 page-cleared m n r en er =

@@ -2,7 +2,7 @@
 use mathlib.Core.Path.{_≡_, refl, ap, _∙_}
 use mathlib.Core.List.{List}
 use mathlib.Core.Bool.{Bool, true, false, cond}
-use Prim.Native.Nat.{ℕ, zero, suc, _-_, _≤_, _<_, _^_}
+use Prim.Native.Nat.{ℕ, zero, suc, _+_, _-_, _≤_, _<_, _^_}
 use native.Mathlib.Omega.{arith}
 use borrow.Author.Tests.{ltb-true, ltb-false, lt-ltb, le-ltb}
 use lib.Dec.{ltb}
@@ -57,6 +57,25 @@ module _ (now : ℕ) (e : Entry) where
   pub left-unfrozen : isFrozen (e .stamp) ≡ false → timeLeft now e ≡ pos (e .word) -ℤ pos now
   unfolding timeLeft
   left-unfrozen f = rw (timeLeft, f)
+
+-- a difference of two numbers: from the second on, and below it
+minus-ahead : (a b : ℕ) → b ≤ a → pos a -ℤ pos b ≡ pos (a - b)
+minus-ahead a zero h =
+    let same : a + 0 ≡ a - 0 = omega arith in
+    ap pos same
+minus-ahead a (suc b) h = ap (λ (t : Bool). cond t (negsuc (suc b - suc a)) (pos (a - suc b))) (le-ltb a (suc b) h)
+
+minus-past : (a b k : ℕ) → b ≡ a + suc k → pos a -ℤ pos b ≡ negsuc k
+minus-past a zero k h = absurd (omega arith)
+minus-past a (suc b) k h =
+    let less : suc b - suc a ≡ k = omega arith in
+    ap (λ (t : Bool). cond t (negsuc (suc b - suc a)) (pos (a - suc b))) (lt-ltb a (suc b) (omega arith)) ∙ ap negsuc less
+
+pub left-ahead : (now : ℕ) (e : Entry) → isFrozen (e .stamp) ≡ false → now ≤ e .word → timeLeft now e ≡ pos (e .word - now)
+left-ahead now e f h = left-unfrozen now e f ∙ minus-ahead (e .word) now h
+
+pub left-past : (now : ℕ) (e : Entry) → isFrozen (e .stamp) ≡ false → (k : ℕ) → now ≡ e .word + suc k → timeLeft now e ≡ negsuc k
+left-past now e f k h = left-unfrozen now e f ∙ minus-past (e .word) now k h
 
 -- the difference of two numbers of 4 bytes has 64 bits
 pub minus-fits : (a b : ℕ) → a < 256 ^ wordSize → b < 256 ^ wordSize → SFits w64 (pos a -ℤ pos b)

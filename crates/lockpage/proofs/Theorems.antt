@@ -1,6 +1,7 @@
 -- The claims of specs/Claims.antt, proved. Assumes nothing.
-use Rattle.lockpage.specs.Claims.{ReadAndWrittenBack, WrittenAndReadBack, UpdateFits, Blank}
-use Rattle.lockpage.proofs.EntryLaw.{entryOf-bytes, bytes-entryOf}
+use Rattle.lockpage.specs.Claims.{ReadAndWrittenBack, WrittenAndReadBack, UpdateFits, Blank, LeftOfUnfrozen}
+use Rattle.lockpage.proofs.EntryLaw.{entryOf-bytes, bytes-entryOf, frozen-no}
+use Rattle.lockpage.proofs.StateLaw.{left-ahead, left-past}
 use Rattle.lockpage.proofs.UpdateLaw.{updated-fits}
 use Rattle.lockpage.proofs.PageLaw.{blankPage-length, blankPage-at}
 
@@ -18,3 +19,9 @@ update-fits = updated-fits
 
 pub blank : Blank
 blank = record { size = blankPage-length; entries = blankPage-at }
+
+pub left-of-unfrozen : LeftOfUnfrozen
+unfolding LeftOfUnfrozen
+left-of-unfrozen now e f =
+    let no = frozen-no (e .stamp) f in
+    record { ahead = left-ahead now e no; past = left-past now e no }

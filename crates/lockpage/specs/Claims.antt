@@ -1,14 +1,16 @@
 -- What a reader wants to know of the definitions. Each claim is a type; its proof has the claim's name in proofs/Theorems.antt.
-use Prim.Native.Nat.{ℕ, _≤_, _<_}
+use Prim.Native.Nat.{ℕ, suc, _+_, _-_, _≤_, _<_}
 use mathlib.Core.Path.{_≡_}
 use mathlib.Core.Bool.{true}
 use mathlib.Core.List.{List}
 use lib.ListN.{length}
+use lib.IntN.{pos, negsuc}
 use Rattle.octets.specs.Part.{AreBytes}
 use Rattle.lockpage.specs.declared.Entry.{Entry}
 use Rattle.lockpage.specs.declared.Update.{Update}
 use Rattle.lockpage.specs.Size.{entrySize, entriesPerPage, pageSize}
-use Rattle.lockpage.specs.Entry.{entryBytes, entryOf, EntryFits}
+use Rattle.lockpage.specs.Entry.{entryBytes, entryOf, EntryFits, flag, unfrozen}
+use Rattle.lockpage.specs.State.{timeLeft}
 use Rattle.lockpage.specs.Update.{latestTime, updated, withinLimit}
 use Rattle.lockpage.specs.Page.{entryAt, blankEntry, blankPage}
 
@@ -28,3 +30,11 @@ UpdateFits = (u : Update) (now : ℕ) (e : Entry) → now ≤ latestTime → Ent
 pub record Blank : Type 0 where
   pub size : length blankPage ≡ pageSize
   pub entries : (i : ℕ) → i < entriesPerPage → entryAt blankPage i ≡ blankEntry
+
+-- the time left of an unfrozen block: "expiry minus now, negative once past"
+pub record Left (now : ℕ) (e : Entry) : Type 0 where
+  pub ahead : now ≤ e .word → timeLeft now e ≡ pos (e .word - now)
+  pub past : (k : ℕ) → now ≡ e .word + suc k → timeLeft now e ≡ negsuc k
+
+unfoldable pub LeftOfUnfrozen : Type 0
+LeftOfUnfrozen = (now : ℕ) (e : Entry) → flag (e .stamp) ≡ unfrozen → Left now e

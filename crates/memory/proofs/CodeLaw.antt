@@ -1,20 +1,15 @@
 -- What the code's loads and stores make of the memory, in the definitions' words. Assumes nothing.
-use mathlib.Core.Path.{_≡_, ap, ap₂, sym, _∙_}
-use mathlib.Core.List.{List, _++_}
-use Prim.Native.Nat.{ℕ, _+_, _*_, _≤_, _<_}
+use mathlib.Core.Path.{_≡_, ap, sym, _∙_}
+use mathlib.Core.List.{List}
+use Prim.Native.Nat.{ℕ}
 use native.Mathlib.Omega.{arith}
-use lib.ListN.{length, take, drop}
+use lib.ListN.{length}
 use Rattle.octets.specs.Part.{part, replaced, repeated}
 use Rattle.octets.specs.Number.{numberAt, withNumber}
-use Rattle.octets.proofs.PartLaw.{part-length}
 use Rattle.octets.proofs.RepeatedLaw.{repeated-length}
-use Rattle.octets.proofs.ReplacedLaw.{replaced-all, replaced-lent, part-copied, all-copied}
-use Rattle.lockpage.specs.declared.Entry.{Entry}
-use Rattle.lockpage.specs.Size.{entrySize, entriesPerPage, pageSize}
-use Rattle.lockpage.specs.Page.{withEntry}
-use Rattle.lockpage.proofs.PageLaw.{withEntry-length}
-use Rattle.memory.specs.Layout.{memorySize, saltStart, saltSize, countSize, countStart, groupsStart, heldStart, groupSize, pageStart}
-use Rattle.memory.specs.Memory.{salt, count, none, heldPage, withSalt, withCount, withGroups, withHeld, withHeldPage, holding, holdingNone, formatted}
+use Rattle.octets.proofs.ReplacedLaw.{replaced-all, part-copied, all-copied}
+use Rattle.memory.specs.Layout.{memorySize, saltStart, saltSize, countSize, countStart, groupsStart, heldStart, byteSize}
+use Rattle.memory.specs.Memory.{salt, count, none, withSalt, withCount, withGroups, withHeld, formatted}
 
 -- a count, at its place
 pub count-loaded : (m : List ℕ) (r at g : ℕ) → at ≡ countStart g → r ≡ numberAt m at countSize → r ≡ count m g
@@ -36,10 +31,10 @@ module _ (m r : List ℕ) (size : length m ≡ memorySize) where
 
 -- the memory of formatting, stored field after field
 pub format-stored : (m a b c r : List ℕ) (g : ℕ) (s : List ℕ) → length m ≡ memorySize → a ≡ replaced m 0 (repeated memorySize 0)
-    → b ≡ withSalt a s → c ≡ withNumber b groupsStart groupSize g → r ≡ withNumber c heldStart groupSize none → r ≡ formatted g s
+    → b ≡ withSalt a s → c ≡ withNumber b groupsStart byteSize g → r ≡ withNumber c heldStart byteSize none → r ≡ formatted g s
 unfolding formatted withGroups withHeld
 format-stored m a b c r g s size ea eb ec er =
     let zeros : a ≡ repeated memorySize 0 = ea ∙ replaced-all m (repeated memorySize 0) (repeated-length memorySize 0 ∙ sym size) in
     er
-    ∙ ap (λ (x : List ℕ). withNumber x heldStart groupSize none)
-    (ec ∙ ap (λ (x : List ℕ). withNumber x groupsStart groupSize g) (eb ∙ ap (λ (x : List ℕ). withSalt x s) zeros))
+    ∙ ap (λ (x : List ℕ). withNumber x heldStart byteSize none)
+    (ec ∙ ap (λ (x : List ℕ). withNumber x groupsStart byteSize g) (eb ∙ ap (λ (x : List ℕ). withSalt x s) zeros))

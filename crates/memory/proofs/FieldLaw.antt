@@ -12,11 +12,12 @@ use lib.ListN.{length}
 use Rattle.octets.specs.Part.{part, replaced, repeated}
 use Rattle.octets.specs.Number.{number, bytes, numberAt, withNumber}
 use Rattle.octets.proofs.OrderLaw.{apart}
+use Rattle.octets.proofs.PartLaw.{part-length}
 use Rattle.octets.proofs.RepeatedLaw.{repeated-length, repeated-part}
 use Rattle.octets.proofs.ReplacedLaw.{replaced-length, part-same, part-other, part-within}
 use Rattle.octets.proofs.NumberLaw.{bytes-length, numberAt-same, numberAt-other, numberAt-zeros}
 use Rattle.lockpage.specs.Size.{pageSize}
-use Rattle.memory.specs.Layout.{memorySize, saltStart, saltSize, countsStart, countSize, mostGroups, countStart, timeStart, timeSize, groupsStart, heldStart, groupSize, reservedStart, reservedSize, pageStart}
+use Rattle.memory.specs.Layout.{memorySize, saltStart, saltSize, countsStart, countSize, mostGroups, countStart, timeStart, timeSize, groupsStart, heldStart, byteSize, reservedStart, reservedSize, pageStart}
 use Rattle.memory.specs.Memory.{salt, count, lastTime, groups, held, none, heldPage, withSalt, withCount, withNoCounts, withLastTime, withGroups, withHeld, withHeldPage, holding, holdingNone}
 use Rattle.memory.specs.Claims.{Reads, changed}
 
@@ -80,6 +81,13 @@ module _ (m : List ℕ) (size : length m ≡ memorySize) where
   unfolding withCount withNumber
   count-in g n h = in-front m (countStart g) (bytes countSize n) size (omega (arith, bytes-length countSize n))
 
+  -- and what lies after it is the same too
+  pub count-rest : (g n f k : ℕ) → g < mostGroups → countStart g + countSize ≤ f → part (withCount m g n) f k ≡ part m f k
+  unfolding withCount withNumber
+  count-rest g n f k h b =
+      let digits = bytes-length countSize n in
+      part-other m (countStart g) (bytes countSize n) f k (omega arith) (inr (omega arith))
+
   pub counts-in : InFront m (withNoCounts m)
   unfolding withNoCounts
   counts-in =
@@ -94,14 +102,14 @@ module _ (m : List ℕ) (size : length m ≡ memorySize) where
   pub groups-in : (g : ℕ) → InBack m (withGroups m g)
   unfolding withGroups withNumber
   groups-in g =
-      let digits = bytes-length groupSize g in
-      in-back m groupsStart (bytes groupSize g) size (omega arith) (omega arith) (inl (omega arith))
+      let digits = bytes-length byteSize g in
+      in-back m groupsStart (bytes byteSize g) size (omega arith) (omega arith) (inl (omega arith))
 
   pub held-in : (g : ℕ) → InBack m (withHeld m g)
   unfolding withHeld withNumber
   held-in g =
-      let digits = bytes-length groupSize g in
-      in-back m heldStart (bytes groupSize g) size (omega arith) (omega arith) (inl (omega arith))
+      let digits = bytes-length byteSize g in
+      in-back m heldStart (bytes byteSize g) size (omega arith) (omega arith) (inl (omega arith))
 
   pub page-in : (p : List ℕ) → length p ≡ pageSize → InBack m (withHeldPage m p)
   unfolding withHeldPage
@@ -112,6 +120,16 @@ unfolding holding
 holding-in m size g p l =
     let first = held-in m size g in
     in-back-twice m (withHeld m g) (withHeldPage (withHeld m g) p) first (page-in (withHeld m g) (first .size ∙ size) p l)
+
+-- ---- the fields that are lists
+
+pub salt-length : (m : List ℕ) → length m ≡ memorySize → length (salt m) ≡ saltSize
+unfolding salt
+salt-length m size = part-length m saltStart saltSize (omega arith)
+
+pub heldPage-length : (m : List ℕ) → length m ≡ memorySize → length (heldPage m) ≡ pageSize
+unfolding heldPage
+heldPage-length m size = part-length m pageStart pageSize (omega arith)
 
 -- ---- what each field reads after each change
 
@@ -126,8 +144,8 @@ module _ (m n : List ℕ) (size : length m ≡ memorySize) where
         salt = es;
         count = ec;
         time = ap number (i .back timeStart timeSize (omega arith));
-        groups = ap number (i .back groupsStart groupSize (omega arith));
-        held = ap number (i .back heldStart groupSize (omega arith));
+        groups = ap number (i .back groupsStart byteSize (omega arith));
+        held = ap number (i .back heldStart byteSize (omega arith));
         page = i .back pageStart pageSize (omega arith);
       }
 
@@ -208,37 +226,37 @@ module _ (m : List ℕ) (size : length m ≡ memorySize) where
       let digits = bytes-length timeSize t in
       back-reads m (withLastTime m t) size t (groups m) (held m) (heldPage m) (time-in m size t)
       (numberAt-same m timeStart timeSize t (omega arith) s)
-      (numberAt-other m timeStart timeSize t groupsStart groupSize (omega arith) (inr (omega arith)))
-      (numberAt-other m timeStart timeSize t heldStart groupSize (omega arith) (inr (omega arith)))
+      (numberAt-other m timeStart timeSize t groupsStart byteSize (omega arith) (inr (omega arith)))
+      (numberAt-other m timeStart timeSize t heldStart byteSize (omega arith) (inr (omega arith)))
       (part-other m timeStart (bytes timeSize t) pageStart pageSize (omega arith) (inr (omega arith)))
 
   pub groups-set : (g : ℕ) → g < 256 → Reads (withGroups m g) (salt m) (count m) (lastTime m) g (held m) (heldPage m)
   unfolding withGroups withNumber lastTime groups held heldPage numberAt
   groups-set g s =
-      let digits = bytes-length groupSize g in
+      let digits = bytes-length byteSize g in
       back-reads m (withGroups m g) size (lastTime m) g (held m) (heldPage m) (groups-in m size g)
-      (numberAt-other m groupsStart groupSize g timeStart timeSize (omega arith) (inl (omega arith)))
-      (numberAt-same m groupsStart groupSize g (omega arith) (omega arith))
-      (numberAt-other m groupsStart groupSize g heldStart groupSize (omega arith) (inr (omega arith)))
-      (part-other m groupsStart (bytes groupSize g) pageStart pageSize (omega arith) (inr (omega arith)))
+      (numberAt-other m groupsStart byteSize g timeStart timeSize (omega arith) (inl (omega arith)))
+      (numberAt-same m groupsStart byteSize g (omega arith) (omega arith))
+      (numberAt-other m groupsStart byteSize g heldStart byteSize (omega arith) (inr (omega arith)))
+      (part-other m groupsStart (bytes byteSize g) pageStart pageSize (omega arith) (inr (omega arith)))
 
   pub held-set : (g : ℕ) → g < 256 → Reads (withHeld m g) (salt m) (count m) (lastTime m) (groups m) g (heldPage m)
   unfolding withHeld withNumber lastTime groups held heldPage numberAt
   held-set g s =
-      let digits = bytes-length groupSize g in
+      let digits = bytes-length byteSize g in
       back-reads m (withHeld m g) size (lastTime m) (groups m) g (heldPage m) (held-in m size g)
-      (numberAt-other m heldStart groupSize g timeStart timeSize (omega arith) (inl (omega arith)))
-      (numberAt-other m heldStart groupSize g groupsStart groupSize (omega arith) (inl (omega arith)))
-      (numberAt-same m heldStart groupSize g (omega arith) (omega arith))
-      (part-other m heldStart (bytes groupSize g) pageStart pageSize (omega arith) (inr (omega arith)))
+      (numberAt-other m heldStart byteSize g timeStart timeSize (omega arith) (inl (omega arith)))
+      (numberAt-other m heldStart byteSize g groupsStart byteSize (omega arith) (inl (omega arith)))
+      (numberAt-same m heldStart byteSize g (omega arith) (omega arith))
+      (part-other m heldStart (bytes byteSize g) pageStart pageSize (omega arith) (inr (omega arith)))
 
   pub page-set : (p : List ℕ) → length p ≡ pageSize → Reads (withHeldPage m p) (salt m) (count m) (lastTime m) (groups m) (held m) p
   unfolding withHeldPage lastTime groups held heldPage numberAt
   page-set p l =
       back-reads m (withHeldPage m p) size (lastTime m) (groups m) (held m) p (page-in m size p l)
       (ap number (part-other m pageStart p timeStart timeSize (omega arith) (inl (omega arith))))
-      (ap number (part-other m pageStart p groupsStart groupSize (omega arith) (inl (omega arith))))
-      (ap number (part-other m pageStart p heldStart groupSize (omega arith) (inl (omega arith))))
+      (ap number (part-other m pageStart p groupsStart byteSize (omega arith) (inl (omega arith))))
+      (ap number (part-other m pageStart p heldStart byteSize (omega arith) (inl (omega arith))))
       (part-same m pageStart p pageSize l (omega arith))
 
 pub page-held : (m : List ℕ) → length m ≡ memorySize → (g : ℕ) (p : List ℕ) → g < 256 → length p ≡ pageSize

@@ -1,5 +1,5 @@
 -- What a reader wants to know of the controller memory. Each claim is a type; its proof has the claim's name in proofs/Theorems.antt.
-use Prim.Native.Nat.{ℕ, _^_, _≤_, _<_}
+use Prim.Native.Nat.{ℕ, _^_, _<_}
 use mathlib.Core.Path.{_≡_}
 use mathlib.Core.Bool.{true, false}
 use mathlib.Core.List.{List}
@@ -7,7 +7,6 @@ use lib.ListN.{length}
 use lib.Dec.{eqb}
 use Rattle.octets.specs.Part.{repeated}
 use Rattle.lockpage.specs.Size.{pageSize}
-use Rattle.lockpage.specs.Update.{latestTime}
 use Rattle.memory.specs.Layout.{memorySize, saltSize, countSize, mostGroups, timeSize}
 use Rattle.memory.specs.Memory.{salt, count, lastTime, groups, held, none, heldPage, withSalt, withCount, withNoCounts, withLastTime, withHeldPage, holding, holdingNone, formatted}
 

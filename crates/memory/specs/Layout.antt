@@ -37,8 +37,8 @@ abbrev pub heldStart : ℕ
 heldStart = 101
 
 -- G and the held group take a byte each
-abbrev pub groupSize : ℕ
-groupSize = 1
+abbrev pub byteSize : ℕ
+byteSize = 1
 
 abbrev pub reservedStart : ℕ
 reservedStart = 102

@@ -5,7 +5,7 @@ use mathlib.Core.List.{List}
 use Rattle.octets.specs.Part.{part, replaced, repeated}
 use Rattle.octets.specs.Number.{numberAt, withNumber}
 use Rattle.lockpage.specs.Size.{pageSize}
-use Rattle.memory.specs.Layout.{memorySize, saltStart, saltSize, countsStart, countSize, countStart, timeStart, timeSize, groupsStart, heldStart, groupSize, pageStart}
+use Rattle.memory.specs.Layout.{memorySize, saltStart, saltSize, countsStart, countSize, countStart, timeStart, timeSize, groupsStart, heldStart, byteSize, pageStart}
 
 -- ---- read
 
@@ -21,11 +21,11 @@ lastTime m = numberAt m timeStart timeSize
 
 -- G
 unfoldable pub groups : List ℕ → ℕ
-groups m = numberAt m groupsStart groupSize
+groups m = numberAt m groupsStart byteSize
 
 -- the held group, or none
 unfoldable pub held : List ℕ → ℕ
-held m = numberAt m heldStart groupSize
+held m = numberAt m heldStart byteSize
 
 -- "held group or 255"
 abbrev pub none : ℕ
@@ -50,10 +50,10 @@ unfoldable pub withLastTime : List ℕ → ℕ → List ℕ
 withLastTime m t = withNumber m timeStart timeSize t
 
 unfoldable pub withGroups : List ℕ → ℕ → List ℕ
-withGroups m g = withNumber m groupsStart groupSize g
+withGroups m g = withNumber m groupsStart byteSize g
 
 unfoldable pub withHeld : List ℕ → ℕ → List ℕ
-withHeld m g = withNumber m heldStart groupSize g
+withHeld m g = withNumber m heldStart byteSize g
 
 unfoldable pub withHeldPage : List ℕ → List ℕ → List ℕ
 withHeldPage m p = replaced m pageStart p

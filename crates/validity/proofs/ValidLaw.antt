@@ -1,7 +1,6 @@
 -- Laws of validity: what a valid memory says, clause by clause, and which changes keep it. Assumes nothing.
 use mathlib.Core.Path.{_≡_, refl, ap, sym, subst, _∙_}
 use mathlib.Core.Bool.{Bool, true, false, _&&_, _||_, not, false≢true}
-use mathlib.Core.Logic.{inr}
 use mathlib.Core.List.{List}
 use Prim.Native.Nat.{ℕ, _+_, _*_, _-_, _^_, _≤_, _<_}
 use native.Mathlib.Omega.{arith}
@@ -9,12 +8,10 @@ use borrow.Author.Tests.{eqb-true, eqb-false, leb-true, ltb-true, eq-eqb, ne-eqb
 use lib.Dec.{eqb}
 use lib.ListN.{length}
 use Rattle.octets.specs.Part.{part, repeated}
-use Rattle.octets.specs.Number.{bytes, withNumber}
 use Rattle.octets.proofs.EqualLaw.{equal-true, equal-yes}
 use Rattle.octets.proofs.PartLaw.{part-part}
 use Rattle.octets.proofs.RepeatedLaw.{repeated-length, repeated-part}
-use Rattle.octets.proofs.ReplacedLaw.{part-other}
-use Rattle.octets.proofs.NumberLaw.{bytes-length, numberAt-zeros}
+use Rattle.octets.proofs.NumberLaw.{numberAt-zeros}
 use Rattle.lockpage.specs.Size.{pageSize}
 use Rattle.lockpage.specs.Update.{latestTime}
 use Rattle.memory.specs.Layout.{memorySize, saltSize, countSize, mostGroups, countStart, timeStart, reservedStart, reservedSize}
@@ -22,7 +19,7 @@ use Rattle.memory.specs.Memory.{salt, count, lastTime, groups, held, none, held
 use Rattle.validity.specs.Valid.{countLimit, every, valid}
 use Rattle.memory.specs.Claims.{Reads, changed}
 use Rattle.memory.proofs.FormatLaw.{formatted-reads, formatted-zeros}
-use Rattle.memory.proofs.FieldLaw.{InFront, InBack, salt-in, salt-rest, count-in, counts-in, time-in, holding-in, salt-set, count-set, counts-zero, counts-cleared, time-set, page-held, page-dropped}
+use Rattle.memory.proofs.FieldLaw.{InFront, InBack, salt-in, salt-rest, count-in, count-rest, counts-in, time-in, holding-in, salt-set, count-set, counts-zero, counts-cleared, time-set, page-held, page-dropped}
 
 -- the counts from group g on are zeros
 abbrev pub UnusedFrom : List ℕ → ℕ → Type 0
@@ -177,13 +174,12 @@ module _ (m : List ℕ) (v : Valid m) where
 
   pub valid-count : (g n : ℕ) → g < groups m → n < 256 ^ countSize → (held m ≡ g → (1 ≤ n) × (n ≤ countLimit))
       → valid (withCount m g n) ≡ true
-  unfolding withCount withNumber
   valid-count g n h s k =
       from-reads (withCount m g n) (salt m) (changed (count m) g n) (lastTime m) (groups m) (held m) (heldPage m)
       (count-set m (v .size) g n (omega (arith, v .most)) s)
       (v .least) (v .most) (v .group) (v .time)
-      (part-other m (countStart g) (bytes countSize n) (countStart (groups m)) (timeStart - countStart (groups m))
-      (omega (arith, v .size, v .most, bytes-length countSize n)) (inr (omega (arith, bytes-length countSize n))) ∙ v .unused)
+      (count-rest m (v .size) g n (countStart (groups m)) (timeStart - countStart (groups m)) (omega (arith, v .most)) (omega arith)
+      ∙ v .unused)
       (front-reserved (withCount m g n) (count-in m (v .size) g n (omega (arith, v .most))))
       (λ x. go x (eqb (held m) g) refl) (v .blank)
     where

@@ -1,15 +1,13 @@
 -- What a reader wants to know of valid memories. Each claim is a type; its proof has the claim's name in proofs/Theorems.antt.
 use Prim.Native.Nat.{ℕ, _^_, _≤_, _<_}
 use mathlib.Core.Path.{_≡_}
-use mathlib.Core.Bool.{true, false}
+use mathlib.Core.Bool.{true}
 use mathlib.Core.List.{List}
 use lib.ListN.{length}
-use lib.Dec.{eqb}
-use Rattle.octets.specs.Part.{repeated}
 use Rattle.lockpage.specs.Size.{pageSize}
 use Rattle.lockpage.specs.Update.{latestTime}
-use Rattle.memory.specs.Layout.{memorySize, saltSize, countSize, mostGroups, timeSize}
-use Rattle.memory.specs.Memory.{salt, count, lastTime, groups, held, none, heldPage, withSalt, withCount, withNoCounts, withLastTime, withHeldPage, holding, holdingNone, formatted}
+use Rattle.memory.specs.Layout.{saltSize, countSize, mostGroups}
+use Rattle.memory.specs.Memory.{count, groups, held, none, withSalt, withCount, withNoCounts, withLastTime, holding, holdingNone, formatted}
 use Rattle.validity.specs.Valid.{countLimit, valid}
 
 -- a change of a valid memory, as a command makes it, leaves it valid
