@@ -1,5 +1,5 @@
 -- Laws of the address map, by arithmetic: what lies below what, what is apart, offsets within a group. Assumes nothing.
-use mathlib.Core.Path.{_≡_}
+use mathlib.Core.Path.{_≡_, ap, sym, _∙_}
 use Prim.Native.Nat.{ℕ, _+_, _*_, _/_, _≤_, _<_}
 use native.Mathlib.Omega.{arith}
 use Rattle.lockpage.specs.Size.{blockSize}
@@ -20,6 +20,13 @@ placeOf-below a = omega arith
 pub physical-place : (a : ℕ) → physical a ≡ groupBlocks * groupOf a + placeOf a
 unfolding physical groupOf placeOf
 physical-place a = omega arith
+
+-- by a place that was computed
+pub physical-at : (a place : ℕ) → place ≡ placeOf a → physical a ≡ groupBlocks * groupOf a + place
+physical-at a place e = physical-place a ∙ ap (λ (n : ℕ). groupBlocks * groupOf a + n) (sym e)
+
+pub placeOf-in : (a place : ℕ) → place ≡ placeOf a → place < groupBlocks
+placeOf-in a place e = omega (arith, placeOf-below a)
 
 pub pageBlock-place : (g : ℕ) → pageBlock g ≡ groupBlocks * g + pagePlace
 unfolding pageBlock

@@ -1,6 +1,6 @@
 -- Parts that are cut out and lent, as the code makes them: a block copied, a block's part that came back filled, a stretch that was
 -- cut out, handed on and came back. Assumes nothing.
-use mathlib.Core.Path.{_≡_, ap, ap₂, sym, _∙_}
+use mathlib.Core.Path.{_≡_, ap, ap₂, sym, subst, _∙_}
 use mathlib.Core.List.{List, _++_}
 use Prim.Native.Nat.{ℕ, _+_, _*_, _-_, _≤_, _<_}
 use native.Mathlib.Omega.{arith}
@@ -42,7 +42,7 @@ pub stretch-end : (disk : List ℕ) (g from : ℕ) → HasGroup disk g → from 
 unfolding HasGroup
 stretch-end disk g from has ef = omega arith
 
-stretch-cut : (disk : List ℕ) (g from : ℕ) → from ≡ groupStart g → take (from + groupSize - from) (drop from disk) ≡ stretch disk g
+pub stretch-cut : (disk : List ℕ) (g from : ℕ) → from ≡ groupStart g → take (from + groupSize - from) (drop from disk) ≡ stretch disk g
 unfolding stretch part
 stretch-cut disk g from ef = ap₂ (λ (k at : ℕ). take k (drop at disk)) (span from groupSize) ef
 
@@ -52,26 +52,33 @@ unfolding withStretch
 stretch-lent disk r g from ef s =
     replaced-lent disk from (from + groupSize - from) r (s ∙ sym (span from groupSize)) ∙ ap (λ (at : ℕ). replaced disk at r) ef
 
-module _ (disk : List ℕ) (g from place p : ℕ) (has : HasGroup disk g) (h : place < groupBlocks) (ef : from ≡ groupStart g)
-    (ep : p ≡ groupBlocks * g + place) where
-  -- block p of the disk, read and stored by its place in the stretch
-  pub block-read : (r : List ℕ) → r ≡ block (take (from + groupSize - from) (drop from disk)) place → r ≡ block disk p
-  block-read r er =
+-- a group's number that was computed
+pub has-computed : (disk : List ℕ) (g k : ℕ) → HasGroup disk g → k ≡ g → HasGroup disk k
+has-computed disk g k has e = subst (HasGroup disk) (sym e) has
+
+-- block p of the disk, read by its place in a stretch that was handed back
+module _ (disk s : List ℕ) (g k : ℕ) (has : HasGroup disk g) (ek : k ≡ g) (es : s ≡ stretch disk k) where
+  pub cut-length : length s ≡ groupSize
+  cut-length = ap length (es ∙ ap (stretch disk) ek) ∙ stretch-length disk g has
+
+  pub block-read : (r : List ℕ) (place p : ℕ) → place < groupBlocks → p ≡ groupBlocks * g + place → r ≡ block s place → r ≡ block disk p
+  block-read r place p h ep er =
       er
-      ∙ ap (λ (s : List ℕ). block s place) (stretch-cut disk g from ef)
+      ∙ ap (λ (t : List ℕ). block t place) (es ∙ ap (stretch disk) ek)
       ∙ block-in-stretch disk g has place h
       ∙ ap (block disk) (sym ep)
 
-  pub block-stored : (new r : List ℕ) → length new ≡ blockSize → r ≡ withBlock (take (from + groupSize - from) (drop from disk)) place new
-      → take from disk ++ (r ++ drop (from + groupSize - from) (drop from disk)) ≡ withBlock disk p new
-  block-stored new r s er =
-      let within : r ≡ withBlock (stretch disk g) place new =
-      er ∙ ap (λ (t : List ℕ). withBlock t place new) (stretch-cut disk g from ef) in
-      let room : blockStart place + blockSize ≤ length (stretch disk g) =
-      omega (arith, stretch-length disk g has, blockStart-place place h) in
-      let size : length r ≡ groupSize =
-      ap length within ∙ withBlock-length (stretch disk g) place new s room ∙ stretch-length disk g has in
-      stretch-lent disk r g from ef size
-      ∙ ap (withStretch disk g) within
-      ∙ stored-in-stretch disk g has place h new s
-      ∙ ap (λ (q : ℕ). withBlock disk q new) (sym ep)
+-- block p of the disk, stored by its place in a stretch that was lent
+pub block-stored : (disk new r : List ℕ) (g from place p : ℕ) → HasGroup disk g → place < groupBlocks → from ≡ groupStart g
+    → p ≡ groupBlocks * g + place → length new ≡ blockSize → r ≡ withBlock (take (from + groupSize - from) (drop from disk)) place new
+    → take from disk ++ (r ++ drop (from + groupSize - from) (drop from disk)) ≡ withBlock disk p new
+block-stored disk new r g from place p has h ef ep s er =
+    let within : r ≡ withBlock (stretch disk g) place new =
+    er ∙ ap (λ (t : List ℕ). withBlock t place new) (stretch-cut disk g from ef) in
+    let room : blockStart place + blockSize ≤ length (stretch disk g) = omega (arith, stretch-length disk g has, blockStart-place place h) in
+    let size : length r ≡ groupSize =
+    ap length within ∙ withBlock-length (stretch disk g) place new s room ∙ stretch-length disk g has in
+    stretch-lent disk r g from ef size
+    ∙ ap (withStretch disk g) within
+    ∙ stored-in-stretch disk g has place h new s
+    ∙ ap (λ (q : ℕ). withBlock disk q new) (sym ep)

@@ -3,17 +3,25 @@ ghost use mathlib.Core.Path.{_≡_};
 ghost use lib.ListN.{length};
 ghost use Rattle.lockpage.specs.Size.{blockSize};
 ghost use Rattle.addressing.specs.Map.{groupOf, physical, pageBlock};
-ghost use Rattle.disk.specs.Disk.{block as blockAt, withBlock, HasGroup};
+ghost use Rattle.disk.specs.Disk.{block as blockAt, withBlock, stretch as stretchOf, HasGroup};
+
+// A group's stretch of the disk, to be read.
+pub fn stretch(disk: &[u8], group: u32) -> &[u8]
+    requires { ⌜ HasGroup (now disk) group ⌝ }
+    ensures { λ r. ⌜ now r ≡ stretchOf (now (disk .entry)) group ⌝ }
+{
+    let from = addressing::group_start(group);
+    let to = from + addressing::GROUP_SIZE;
+    &disk[from..to]
+}
 
 // Copies a data block into out.
 pub fn read_block(disk: &[u8], block: u32, out: &mut [u8])
     requires { ⌜ HasGroup (now disk) (groupOf block) × (length (now out) ≡ blockSize) ⌝ }
     ensures { λ _. ⌜ now (out .exit) ≡ blockAt (now (disk .entry)) (physical block) ⌝ }
 {
-    let from = addressing::group_start(addressing::group_of(block));
-    let to = from + addressing::GROUP_SIZE;
-    let place = addressing::place_of(block);
-    crate::group::read_block(&disk[from..to], place, out);
+    let group = stretch(disk, addressing::group_of(block));
+    crate::group::read_block(group, addressing::place_of(block), out);
 }
 
 // Stores a data block.
@@ -32,9 +40,7 @@ pub fn read_page(disk: &[u8], group: u32, out: &mut [u8])
     requires { ⌜ HasGroup (now disk) group × (length (now out) ≡ blockSize) ⌝ }
     ensures { λ _. ⌜ now (out .exit) ≡ blockAt (now (disk .entry)) (pageBlock group) ⌝ }
 {
-    let from = addressing::group_start(group);
-    let to = from + addressing::GROUP_SIZE;
-    crate::group::read_page(&disk[from..to], out);
+    crate::group::read_page(stretch(disk, group), out);
 }
 
 // Stores a group's page.

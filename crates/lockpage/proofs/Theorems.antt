@@ -1,7 +1,7 @@
 -- The claims of specs/Claims.antt, proved. Assumes nothing.
-use Rattle.lockpage.specs.Claims.{ReadAndWrittenBack, WrittenAndReadBack, UpdateFits, Blank, LeftOfUnfrozen}
-use Rattle.lockpage.proofs.EntryLaw.{entryOf-bytes, bytes-entryOf, frozen-no}
-use Rattle.lockpage.proofs.StateLaw.{left-ahead, left-past}
+use Rattle.lockpage.specs.Claims.{ReadAndWrittenBack, WrittenAndReadBack, StateOfEntry, UpdateFits, Blank, LeftOfUnfrozen}
+use Rattle.lockpage.proofs.EntryLaw.{entryOf-bytes, bytes-entryOf, frozen-yes, frozen-no}
+use Rattle.lockpage.proofs.StateLaw.{state-frozen, state-counting, state-free, left-ahead, left-past}
 use Rattle.lockpage.proofs.UpdateLaw.{updated-fits}
 use Rattle.lockpage.proofs.PageLaw.{blankPage-length, blankPage-at}
 
@@ -12,6 +12,15 @@ read-and-written-back = bytes-entryOf
 pub written-and-read-back : WrittenAndReadBack
 unfolding WrittenAndReadBack
 written-and-read-back = entryOf-bytes
+
+pub state-of-entry : StateOfEntry
+unfolding StateOfEntry
+state-of-entry now e =
+    record {
+      is-frozen = λ f. state-frozen now e (frozen-yes (e .stamp) f);
+      is-counting = λ f. state-counting now e (frozen-no (e .stamp) f);
+      is-free = λ f. state-free now e (frozen-no (e .stamp) f);
+    }
 
 pub update-fits : UpdateFits
 unfolding UpdateFits

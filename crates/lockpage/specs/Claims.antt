@@ -7,10 +7,11 @@ use lib.ListN.{length}
 use lib.IntN.{pos, negsuc}
 use Rattle.octets.specs.Part.{AreBytes}
 use Rattle.lockpage.specs.declared.Entry.{Entry}
+use Rattle.lockpage.specs.declared.State.the-variants.{Free, Frozen, Counting}
 use Rattle.lockpage.specs.declared.Update.{Update}
 use Rattle.lockpage.specs.Size.{entrySize, entriesPerPage, pageSize}
-use Rattle.lockpage.specs.Entry.{entryBytes, entryOf, EntryFits, flag, unfrozen}
-use Rattle.lockpage.specs.State.{timeLeft}
+use Rattle.lockpage.specs.Entry.{entryBytes, entryOf, EntryFits, flag, frozen, unfrozen}
+use Rattle.lockpage.specs.State.{state, timeLeft}
 use Rattle.lockpage.specs.Update.{latestTime, updated, withinLimit}
 use Rattle.lockpage.specs.Page.{entryAt, blankEntry, blankPage}
 
@@ -20,6 +21,15 @@ ReadAndWrittenBack = (l : List ℕ) → AreBytes l → length l ≡ entrySize �
 
 unfoldable pub WrittenAndReadBack : Type 0
 WrittenAndReadBack = (e : Entry) → EntryFits e → entryOf (entryBytes e) ≡ e
+
+-- "f = 0: frozen"; "f = 1: .. Counting while now < expiry, free from expiry on": an expiry reached is free
+pub record States (now : ℕ) (e : Entry) : Type 0 where
+  pub is-frozen : flag (e .stamp) ≡ frozen → state now e ≡ Frozen
+  pub is-counting : flag (e .stamp) ≡ unfrozen → now < e .word → state now e ≡ Counting
+  pub is-free : flag (e .stamp) ≡ unfrozen → e .word ≤ now → state now e ≡ Free
+
+unfoldable pub StateOfEntry : Type 0
+StateOfEntry = (now : ℕ) (e : Entry) → States now e
 
 -- what an update within its limit stores has its eight bytes, so that it is what is read back
 unfoldable pub UpdateFits : Type 0

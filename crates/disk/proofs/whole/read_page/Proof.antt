@@ -1,27 +1,24 @@
--- `disk::whole::read_page` meets its contract: the group's stretch is cut out and handed on. Assumes nothing.
+-- `disk::whole::read_page` meets its contract, by the group's stretch. Assumes nothing.
 use borrow.Author.Needs.{needs}
+use mathlib.Core.Path.{refl}
 use native.Mathlib.Omega.{arith}
-use Prim.Native.Nat.{_+_, _≤_}
-use lib.ListN.{length}
-use Rattle.addressing.specs.Map.{groupSize, pagePlace}
+use Rattle.addressing.specs.Map.{pagePlace}
 use Rattle.addressing.proofs.MapLaw.{pageBlock-place}
-use Rattle.disk.proofs.LentLaw.{stretch-end, block-read}
+use Rattle.disk.proofs.LentLaw.{cut-length, block-read}
 use Rattle.disk.proofs.whole.read_page.Statement.{statement}
 use Rattle.disk.proofs.whole.read_page.Tie as tie
 
--- the group's end
-ends : (c : tie.After-group-start) → c .group-start .result + groupSize ≤ length (c .before .before .before .args .disk .now)
-ends c = stretch-end _ _ _ (c .before .before .before .pre .0) (c .group-start .ensures)
+read-page-requires : tie.Need-read-page-requires
+read-page-requires c κs =
+    let start = c .before .before .before .before in
+    (cut-length _ _ _ _ (start .pre .0) refl (c .before .stretch .ensures), search needs)
 
 returns : tie.Need-returns
 returns c =
     let called = c .before .before in
-    let started = called .before .before .before in
-    let start = started .before .before .before in
-    block-read _ _ _ pagePlace _ (start .pre .0) (omega arith) (started .group-start .ensures) (pageBlock-place _) _ (called .read-page .ensures)
+    let cut = called .before .before in
+    block-read _ _ _ _ (cut .before .before .before .pre .0) refl (cut .stretch .ensures) _ pagePlace _ (omega arith) (pageBlock-place _)
+    (called .read-page .ensures)
 
 pub read-page-spec : {M : Type 1} → statement M
-read-page-spec =
-    tie.close
-    (tie.spec (λ c κs. search needs) (λ c. omega (arith, ends c)) (λ c. search needs) (λ c. search needs) (λ c. omega (arith, ends c))
-    (λ c κs. search needs) (λ c. search needs) returns)
+read-page-spec = tie.close (tie.spec (λ c κs. search needs) read-page-requires (λ c. search needs) returns)

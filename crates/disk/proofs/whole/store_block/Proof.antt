@@ -1,11 +1,11 @@
--- `disk::whole::store_block` meets its contract: the group's stretch is cut out and handed on. Assumes nothing.
+-- `disk::whole::store_block` meets its contract: its group's stretch is lent and comes back with the block stored. Assumes nothing.
 use borrow.Author.Needs.{needs}
-use mathlib.Core.Path.{_≡_, ap, sym, _∙_}
+use mathlib.Core.Path.{_≡_, ap, _∙_}
 use native.Mathlib.Omega.{arith}
-use Prim.Native.Nat.{ℕ, _+_, _*_, _≤_, _<_}
+use Prim.Native.Nat.{_+_, _≤_}
 use lib.ListN.{length}
-use Rattle.addressing.specs.Map.{groupBlocks, groupSize, groupOf, physical, groupStart}
-use Rattle.addressing.proofs.MapLaw.{placeOf-below, physical-place}
+use Rattle.addressing.specs.Map.{groupSize, groupOf, groupStart}
+use Rattle.addressing.proofs.MapLaw.{physical-at, placeOf-in}
 use Rattle.disk.proofs.LentLaw.{stretch-end, block-stored}
 use Rattle.disk.proofs.whole.store_block.Statement.{statement}
 use Rattle.disk.proofs.whole.store_block.Tie as tie
@@ -17,22 +17,19 @@ starts c = c .group-start .ensures ∙ ap groupStart (c .before .group-of .ensur
 ends : (c : tie.After-group-start) → c .group-start .result + groupSize ≤ length (c .before .before .before .before .args .disk .now)
 ends c = stretch-end _ _ _ (c .before .before .before .before .pre .0) (starts c)
 
--- the place is one of the group's
-place-in : (c : tie.After-place-of) → c .place-of .result < groupBlocks
-place-in c = omega (arith, c .place-of .ensures, placeOf-below (c .before .before .before .before .before .args .block))
-
 returns : tie.Need-returns
 returns c =
     let called = c .before .before in
     let placed = called .before .before in
     let started = placed .before in
     let start = started .before .before .before .before in
-    let physical-is : physical (start .args .block) ≡ groupBlocks * groupOf (start .args .block) + placed .place-of .result =
-    physical-place (start .args .block) ∙ ap (λ (n : ℕ). groupBlocks * groupOf (start .args .block) + n) (sym (placed .place-of .ensures)) in
-    block-stored _ _ _ _ _ (start .pre .0) (place-in placed) (starts started) physical-is _ _ (start .pre .1) (called .store-block .ensures)
+    let place = placed .place-of .ensures in
+    block-stored _ _ _ _ _ _ _ (start .pre .0) (placeOf-in _ _ place) (starts started) (physical-at _ _ place) (start .pre .1)
+    (called .store-block .ensures)
 
 pub store-block-spec : {M : Type 1} → statement M
 store-block-spec =
     tie.close
-    (tie.spec (λ c κs. search needs) (λ c κs. search needs) (λ c. omega (arith, ends c)) (λ c κs. search needs) (λ c. search needs) (λ c. search needs)
-    (λ c. omega (arith, ends (c .before))) (λ c κs. (place-in (c .before), search needs)) (λ c. search needs) returns)
+    (tie.spec (λ c κs. search needs) (λ c κs. search needs) (λ c. omega (arith, ends c)) (λ c κs. search needs) (λ c. search needs)
+    (λ c. search needs) (λ c. omega (arith, ends (c .before))) (λ c κs. (placeOf-in _ _ (c .before .place-of .ensures), search needs))
+    (λ c. search needs) returns)

@@ -1,27 +1,24 @@
--- `disk::whole::store_page` meets its contract: the group's stretch is cut out and handed on. Assumes nothing.
+-- `disk::whole::store_page` meets its contract: the group's stretch is lent and comes back with the page stored. Assumes nothing.
 use borrow.Author.Needs.{needs}
 use native.Mathlib.Omega.{arith}
-use Prim.Native.Nat.{_+_, _≤_}
-use lib.ListN.{length}
-use Rattle.addressing.specs.Map.{groupSize, pagePlace}
+use Rattle.addressing.specs.Map.{pagePlace}
 use Rattle.addressing.proofs.MapLaw.{pageBlock-place}
 use Rattle.disk.proofs.LentLaw.{stretch-end, block-stored}
 use Rattle.disk.proofs.whole.store_page.Statement.{statement}
 use Rattle.disk.proofs.whole.store_page.Tie as tie
-
--- the group's end
-ends : (c : tie.After-group-start) → c .group-start .result + groupSize ≤ length (c .before .before .before .args .disk .now)
-ends c = stretch-end _ _ _ (c .before .before .before .pre .0) (c .group-start .ensures)
 
 returns : tie.Need-returns
 returns c =
     let called = c .before .before in
     let started = called .before .before in
     let start = started .before .before .before in
-    block-stored _ _ _ pagePlace _ (start .pre .0) (omega arith) (started .group-start .ensures) (pageBlock-place _) _ _ (start .pre .1) (called .store-page .ensures)
+    block-stored _ _ _ _ _ pagePlace _ (start .pre .0) (omega arith) (started .group-start .ensures) (pageBlock-place _) (start .pre .1)
+    (called .store-page .ensures)
 
 pub store-page-spec : {M : Type 1} → statement M
 store-page-spec =
     tie.close
-    (tie.spec (λ c κs. search needs) (λ c. omega (arith, ends c)) (λ c. search needs) (λ c. search needs) (λ c. omega (arith, ends c))
+    (tie.spec (λ c κs. search needs)
+    (λ c. omega (arith, stretch-end _ _ _ (c .before .before .before .pre .0) (c .group-start .ensures))) (λ c. search needs)
+    (λ c. search needs) (λ c. omega (arith, stretch-end _ _ _ (c .before .before .before .pre .0) (c .group-start .ensures)))
     (λ c κs. search needs) (λ c. search needs) returns)
