@@ -52,11 +52,15 @@ module _ (p : List ℕ) (i : ℕ) (b : AreBytes p) (room : entrySize * i + entry
   -- the eight bytes of entry i
   pub entryAt-bytes : entryBytes (entryAt p i) ≡ part p (entrySize * i) entrySize
   unfolding entryAt
-  entryAt-bytes = bytes-entryOf (part p (entrySize * i) entrySize) (below-part 256 p (entrySize * i) entrySize b) (part-length p (entrySize * i) entrySize room)
+  entryAt-bytes =
+      bytes-entryOf (part p (entrySize * i) entrySize) (below-part 256 p (entrySize * i) entrySize b)
+      (part-length p (entrySize * i) entrySize room)
 
   pub entryAt-fits : EntryFits (entryAt p i)
   unfolding entryAt
-  entryAt-fits = entryOf-fits (part p (entrySize * i) entrySize) (below-part 256 p (entrySize * i) entrySize b) (part-length p (entrySize * i) entrySize room)
+  entryAt-fits =
+      entryOf-fits (part p (entrySize * i) entrySize) (below-part 256 p (entrySize * i) entrySize b)
+      (part-length p (entrySize * i) entrySize room)
 
   -- an entry read and written back
   pub withEntry-own : withEntry p i (entryAt p i) ≡ p
@@ -65,7 +69,8 @@ module _ (p : List ℕ) (i : ℕ) (b : AreBytes p) (room : entrySize * i + entry
 
 -- ---- loads and stores, as the code makes them
 
-pub entry-loaded : (p : List ℕ) (i w s : ℕ) → w ≡ numberAt p (entrySize * i) wordSize → s ≡ numberAt p (entrySize * i + wordSize) wordSize
+pub entry-loaded : (p : List ℕ) (i w s : ℕ) → w ≡ numberAt p (entrySize * i) wordSize
+    → s ≡ numberAt p (entrySize * i + wordSize) wordSize
     → entry w s ≡ entryAt p i
 unfolding entryAt entryOf numberAt
 entry-loaded p i w s ew es =
@@ -103,7 +108,8 @@ entries-are (suc n) e = below-append 256 (entryBytes e) (entries n e) (entryByte
 entries-more : (n : ℕ) (e : Entry) → entries n e ++ entryBytes e ≡ entries (suc n) e
 unfolding entries
 entries-more zero e = sym (append-nil (entryBytes e))
-entries-more (suc n) e = append-assoc (entryBytes e) (entries n e) (entryBytes e) ∙ ap (λ (l : List ℕ). entryBytes e ++ l) (entries-more n e)
+entries-more (suc n) e =
+    append-assoc (entryBytes e) (entries n e) (entryBytes e) ∙ ap (λ (l : List ℕ). entryBytes e ++ l) (entries-more n e)
 
 entries-at : (n : ℕ) (e : Entry) (i : ℕ) → i < n → part (entries n e) (entrySize * i) entrySize ≡ entryBytes e
 unfolding entries
@@ -144,7 +150,8 @@ entries-step p q r i e l h eq er =
     ∙ replaced-append p 0 (entries i e) (entryBytes e) (omega (arith, size, entryBytes-length e))
     ∙ ap (replaced p 0) (entries-more i e ∙ ap (λ (n : ℕ). entries n e) (sym (add-one i)))
 
-pub entries-end : (p q : List ℕ) (i : ℕ) → length p ≡ pageSize → i ≡ entriesPerPage → q ≡ replaced p 0 (entries i blankEntry) → q ≡ blankPage
+pub entries-end : (p q : List ℕ) (i : ℕ) → length p ≡ pageSize → i ≡ entriesPerPage
+    → q ≡ replaced p 0 (entries i blankEntry) → q ≡ blankPage
 unfolding blankPage
 entries-end p q i l n eq =
     eq ∙ ap (λ (k : ℕ). replaced p 0 (entries k blankEntry)) n

@@ -15,7 +15,8 @@ pub record Keeps (m : List ℕ) : Type 0 where
   pub salt-set : (s : List ℕ) → length s ≡ saltSize → valid (withSalt m s) ≡ true
   pub time-set : (t : ℕ) → t ≤ latestTime → valid (withLastTime m t) ≡ true
   -- the count of a group of the box; a held group's stays 1 to the limit
-  pub count-set : (g n : ℕ) → g < groups m → n < 256 ^ countSize → (held m ≡ g → (1 ≤ n) × (n ≤ countLimit)) → valid (withCount m g n) ≡ true
+  pub count-set : (g n : ℕ) → g < groups m → n < 256 ^ countSize → (held m ≡ g → (1 ≤ n) × (n ≤ countLimit))
+      → valid (withCount m g n) ≡ true
   pub counts-cleared : held m ≡ none → valid (withNoCounts m) ≡ true
   pub page-held : (g : ℕ) (p : List ℕ) → g < groups m → 1 ≤ count m g → count m g ≤ countLimit → length p ≡ pageSize
       → valid (holding m g p) ≡ true

@@ -27,8 +27,9 @@ unfoldable pub every : List Bool → Bool
 every [] = true
 every (b ∷ bs) = b && every bs
 
--- clause by clause: 616 bytes; "G is 1 to 16; the held group is 255 or below G; the last time is at most 2,147,483,647; counts of groups
--- from G on and bytes 102 and 103 are 0; a held group's count is 1 to 4,294,967,294; and with 255 the held page is 512 zero bytes"
+-- clause by clause: 616 bytes; "G is 1 to 16; the held group is 255 or below G; the last time is at most 2,147,483,647; counts of
+-- groups from G on and bytes 102 and 103 are 0; a held group's count is 1 to 4,294,967,294; and with 255 the held page is 512 zero
+-- bytes"
 unfoldable pub valid : List ℕ → Bool
 valid m =
     every

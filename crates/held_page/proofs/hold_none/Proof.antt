@@ -11,4 +11,7 @@ returns c =
     page-cleared _ _ _ (stored .store-u8 .ensures) (cleared .zero-page .ensures)
 
 pub hold-none-spec : {M : Type 1} → statement M
-hold-none-spec = tie.close (tie.spec (λ c κs. search needs) (λ c. search needs) (λ c. search needs) (λ c. search needs) (λ c. search needs) (λ c κs. search needs) (λ c. search needs) returns)
+hold-none-spec =
+    tie.close
+    (tie.spec (λ c κs. search needs) (λ c. search needs) (λ c. search needs) (λ c. search needs) (λ c. search needs)
+    (λ c κs. search needs) (λ c. search needs) returns)

@@ -10,4 +10,6 @@ unfolding heldPage part
 returns c = c .load-entry .ensures
 
 pub load-entry-spec : {M : Type 1} → statement M
-load-entry-spec = tie.close (tie.spec (λ c. search needs) (λ c. search needs) (λ c. search needs) (λ c. search needs) (λ c κs. search needs) returns)
+load-entry-spec =
+    tie.close
+    (tie.spec (λ c. search needs) (λ c. search needs) (λ c. search needs) (λ c. search needs) (λ c κs. search needs) returns)

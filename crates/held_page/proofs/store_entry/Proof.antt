@@ -11,4 +11,7 @@ returns c =
     entry-stored _ _ (start .pre .0) _ _ (start .pre .1) (stored .store-entry .ensures)
 
 pub store-entry-spec : {M : Type 1} → statement M
-store-entry-spec = tie.close (tie.spec (λ c. search needs) (λ c. search needs) (λ c. search needs) (λ c. search needs) (λ c κs. search needs) (λ c. search needs) returns)
+store-entry-spec =
+    tie.close
+    (tie.spec (λ c. search needs) (λ c. search needs) (λ c. search needs) (λ c. search needs) (λ c κs. search needs)
+    (λ c. search needs) returns)

@@ -11,7 +11,11 @@ returns c =
     let second = third .before .before .before .before in
     let first = second .before .before .before .before in
     let start = first .before .before .before .before in
-    format-stored _ _ _ _ _ _ _ (start .pre .0) (first .fill .ensures) (second .set-salt .ensures) (third .store-u8 .ensures) (last .store-u82 .ensures)
+    format-stored _ _ _ _ _ _ _ (start .pre .0) (first .fill .ensures) (second .set-salt .ensures)
+    (third .store-u8 .ensures) (last .store-u82 .ensures)
 
 pub format-spec : {M : Type 1} → statement M
-format-spec = tie.close (tie.spec (λ c κs. search needs) (λ c κs. search needs) (λ c. search needs) (λ c κs. search needs) (λ c κs. search needs) (λ c. search needs) returns)
+format-spec =
+    tie.close
+    (tie.spec (λ c κs. search needs) (λ c κs. search needs) (λ c. search needs) (λ c κs. search needs)
+    (λ c κs. search needs) (λ c. search needs) returns)

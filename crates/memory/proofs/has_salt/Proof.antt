@@ -10,4 +10,6 @@ unfolding salt part
 returns c = c .equal .ensures
 
 pub has-salt-spec : {M : Type 1} → statement M
-has-salt-spec = tie.close (tie.spec (λ c. search needs) (λ c. search needs) (λ c. search needs) (λ c. search needs) (λ c κs. search needs) returns)
+has-salt-spec =
+    tie.close
+    (tie.spec (λ c. search needs) (λ c. search needs) (λ c. search needs) (λ c. search needs) (λ c κs. search needs) returns)

@@ -11,12 +11,15 @@ use Rattle.validity.proofs.CheckLaw.{Passed, counts-used, counts-unused
 use Rattle.validity.proofs.valid.Statement.{statement}
 use Rattle.validity.proofs.valid.Tie as tie
 
--- the memory, and where the counts that no group has start
+-- the memory, its groups, and where the counts that no group has start
 abbrev bytes : tie.After-count-start → List ℕ
 bytes c = c .before .before .before .before .before .before .before .before .args .memory .now
 
+groups-read : (c : tie.After-count-start) → c .before .before .before .before .before .groups .result ≡ groups (bytes c)
+groups-read c = c .before .before .before .before .before .groups .ensures
+
 unused-start : (c : tie.After-count-start) → c .count-start .result ≡ countStart (groups (bytes c))
-unused-start c = c .count-start .ensures ∙ ap (λ (g : ℕ). countStart g) (c .before .before .before .before .before .groups .ensures)
+unused-start c = c .count-start .ensures ∙ ap (λ (g : ℕ). countStart g) (groups-read c)
 
 unused : tie.Need-returns-5
 unused c = counts-used _ _ _ (unused-start (c .before .before)) (c .before .filled .ensures) (c .if5 .taken)
@@ -49,12 +52,13 @@ out : tie.Need-returns-8
 out c =
     let held = c .before .before in
     let placed = held .before .before .before .before .before in
-    held-out _ _ (held .held .ensures) (c .before .if7 .left) _ (placed .before .before .before .before .before .groups .ensures) (omega (arith, c .if8 .taken))
+    held-out _ _ (held .held .ensures) (c .before .if7 .left) _ (groups-read placed) (omega (arith, c .if8 .taken))
 
 uncounted : tie.Need-returns-9
 uncounted c =
     let held = c .before .before .before .before in
-    held-uncounted _ _ (held .held .ensures) (c .before .before .before .if7 .left) _ (c .before .count .ensures) (omega (arith, c .if9 .taken))
+    let some = c .before .before .before .if7 .left in
+    held-uncounted _ _ (held .held .ensures) some _ (c .before .count .ensures) (omega (arith, c .if9 .taken))
 
 count : tie.Need-returns-10
 count c =
@@ -62,7 +66,7 @@ count c =
     let held = eight .before .before in
     let placed = held .before .before .before .before .before in
     count-decides _ (passed (held .before)) _ _ (held .held .ensures) (eight .before .if7 .left)
-    (omega (arith, eight .if8 .left, placed .before .before .before .before .before .groups .ensures)) (c .before .count .ensures) (omega (arith, c .if9 .left))
+    (omega (arith, eight .if8 .left, groups-read placed)) (c .before .count .ensures) (omega (arith, c .if9 .left))
 
 pub valid-spec : {M : Type 1} → statement M
 valid-spec =

@@ -8,4 +8,6 @@ returns : tie.Need-returns
 returns c = entry-loaded _ _ _ _ (c .before .load-u32 .ensures) (c .load-u322 .ensures)
 
 pub load-entry-spec : {M : Type 1} → statement M
-load-entry-spec = tie.close (tie.spec (λ c. search needs) (λ c κs. search needs) (λ c. search needs) (λ c κs. search needs) returns)
+load-entry-spec =
+    tie.close
+    (tie.spec (λ c. search needs) (λ c κs. search needs) (λ c. search needs) (λ c κs. search needs) returns)
