@@ -6,8 +6,6 @@ ghost use Rattle.lockpage.specs.Size.{entrySize, pageSize};
 ghost use Rattle.lockpage.specs.Page.{entryAt, withEntry, blankPage};
 use crate::Entry;
 
-const STAMP_AT: usize = 4;
-
 // Entry i.
 pub fn load_entry(page: &[u8], i: usize) -> Entry
     requires { ⌜ entrySize * i + entrySize ≤ length (now page) ⌝ }
@@ -15,7 +13,7 @@ pub fn load_entry(page: &[u8], i: usize) -> Entry
 {
     let at = crate::ENTRY_SIZE * i;
     let word = octets::load_u32(page, at);
-    let stamp = octets::load_u32(page, at + STAMP_AT);
+    let stamp = octets::load_u32(page, at + crate::WORD_SIZE);
     Entry {
         word: word,
         stamp: stamp,
@@ -29,7 +27,7 @@ pub fn store_entry(page: &mut [u8], i: usize, e: Entry)
 {
     let at = crate::ENTRY_SIZE * i;
     octets::store_u32(page, at, e.word);
-    octets::store_u32(page, at + STAMP_AT, e.stamp);
+    octets::store_u32(page, at + crate::WORD_SIZE, e.stamp);
 }
 
 // Makes the page the blank one of formatting.

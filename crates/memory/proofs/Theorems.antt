@@ -1,7 +1,20 @@
 -- The claims of specs/Claims.antt, proved. Assumes nothing.
-use Rattle.memory.specs.Claims.{GetAfterSet, FormattedReads}
+use mathlib.Core.Path.{refl}
+use Rattle.memory.specs.Claims.{PapersPlaces, GetAfterSet, FormattedReads}
 use Rattle.memory.proofs.FieldLaw.{salt-set, count-set, counts-cleared, time-set, page-set, page-held, page-dropped}
 use Rattle.memory.proofs.FormatLaw as F
+
+pub papers-places : PapersPlaces
+papers-places =
+    record {
+      salt-at = (refl, refl);
+      counts-at = (refl, refl);
+      time-at = (refl, refl);
+      groups-at = refl;
+      held-at = refl;
+      reserved-at = (refl, refl);
+      page-at = (refl, refl);
+    }
 
 pub get-after-set : GetAfterSet
 unfolding GetAfterSet

@@ -1,5 +1,5 @@
 -- What a reader wants to know of the controller memory. Each claim is a type; its proof has the claim's name in proofs/Theorems.antt.
-use Prim.Native.Nat.{ℕ, _^_, _<_}
+use Prim.Native.Nat.{ℕ, _+_, _^_, _<_}
 use mathlib.Core.Path.{_≡_}
 use mathlib.Core.Bool.{true, false}
 use mathlib.Core.List.{List}
@@ -7,8 +7,21 @@ use lib.ListN.{length}
 use lib.Dec.{eqb}
 use Rattle.octets.specs.Part.{repeated}
 use Rattle.lockpage.specs.Size.{pageSize}
-use Rattle.memory.specs.Layout.{memorySize, saltSize, countSize, mostGroups, timeSize}
+use Rattle.memory.specs.Layout.{memorySize, saltStart, saltSize, countSize, mostGroups, countStart, timeStart, timeSize, groupsStart, heldStart, reservedStart, reservedSize, pageStart}
 use Rattle.memory.specs.Memory.{salt, count, lastTime, groups, held, none, heldPage, withSalt, withCount, withNoCounts, withLastTime, withHeldPage, holding, holdingNone, formatted}
+
+-- ---- document 01's places
+
+-- "0..31 salt; 32..95 sixteen 4-byte freshness counts; 96..99 last time; 100 G; 101 held group or 255; 102, 103 zero; 104..615 held
+-- page"
+pub record PapersPlaces : Type 0 where
+  pub salt-at : (saltStart ≡ 0) × (saltStart + saltSize ≡ 32)
+  pub counts-at : (countStart 0 ≡ 32) × (countStart mostGroups ≡ 96)
+  pub time-at : (timeStart ≡ 96) × (timeStart + timeSize ≡ 100)
+  pub groups-at : groupsStart ≡ 100
+  pub held-at : heldStart ≡ 101
+  pub reserved-at : (reservedStart ≡ 102) × (reservedStart + reservedSize ≡ 104)
+  pub page-at : (pageStart ≡ 104) × (pageStart + pageSize ≡ 616)
 
 -- ---- get after set: what each field reads
 

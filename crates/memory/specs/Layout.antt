@@ -1,19 +1,18 @@
--- Where each field of the controller memory stands, after document 01, "Controller memory, 616 bytes": "0..31 salt; 32..95 sixteen
--- 4-byte freshness counts; 96..99 last time; 100 G; 101 held group or 255; 102, 103 zero; 104..615 held page".
--- Assumes nothing: these are definitions.
+-- Where each field of the controller memory stands, one after the other, after document 01, "Controller memory, 616 bytes". That
+-- the places are the paper's numbers is the claim PapersPlaces. Assumes nothing: these are definitions.
 use Prim.Native.Nat.{ℕ, _+_, _*_}
+use Rattle.lockpage.specs.Size.{pageSize}
 
-abbrev pub memorySize : ℕ
-memorySize = 616
-
+-- "0..31 salt"
 abbrev pub saltStart : ℕ
 saltStart = 0
 
 abbrev pub saltSize : ℕ
 saltSize = 32
 
+-- "32..95 sixteen 4-byte freshness counts"
 abbrev pub countsStart : ℕ
-countsStart = 32
+countsStart = saltStart + saltSize
 
 abbrev pub countSize : ℕ
 countSize = 4
@@ -24,27 +23,33 @@ mostGroups = 16
 abbrev pub countStart : ℕ → ℕ
 countStart g = countsStart + countSize * g
 
+-- "96..99 last time"
 abbrev pub timeStart : ℕ
-timeStart = 96
+timeStart = countsStart + countSize * mostGroups
 
 abbrev pub timeSize : ℕ
 timeSize = 4
 
-abbrev pub groupsStart : ℕ
-groupsStart = 100
-
-abbrev pub heldStart : ℕ
-heldStart = 101
-
--- G and the held group take a byte each
+-- "100 G; 101 held group or 255"
 abbrev pub byteSize : ℕ
 byteSize = 1
 
+abbrev pub groupsStart : ℕ
+groupsStart = timeStart + timeSize
+
+abbrev pub heldStart : ℕ
+heldStart = groupsStart + byteSize
+
+-- "102, 103 zero"
 abbrev pub reservedStart : ℕ
-reservedStart = 102
+reservedStart = heldStart + byteSize
 
 abbrev pub reservedSize : ℕ
 reservedSize = 2
 
+-- "104..615 held page"
 abbrev pub pageStart : ℕ
-pageStart = 104
+pageStart = reservedStart + reservedSize
+
+abbrev pub memorySize : ℕ
+memorySize = pageStart + pageSize

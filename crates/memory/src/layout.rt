@@ -2,29 +2,31 @@
 ghost use mathlib.Core.Path.{_≡_};
 ghost use Rattle.memory.specs.Layout.{countStart};
 
-pub const MEMORY_SIZE: usize = 616;
-
 pub const SALT_START: usize = 0;
 
 pub const SALT_SIZE: usize = 32;
 
-pub const COUNTS_START: usize = 32;
+pub const COUNTS_START: usize = SALT_START + SALT_SIZE;
 
 const COUNT_SIZE: usize = 4;
 
-pub const TIME_START: usize = 96;
+pub const MOST_GROUPS: u32 = 16;
 
-pub const GROUPS_START: usize = 100;
+pub const TIME_START: usize = COUNTS_START + COUNT_SIZE * MOST_GROUPS as usize;
 
-pub const HELD_START: usize = 101;
+const TIME_SIZE: usize = 4;
 
-pub const RESERVED_START: usize = 102;
+pub const GROUPS_START: usize = TIME_START + TIME_SIZE;
+
+pub const HELD_START: usize = GROUPS_START + 1;
+
+pub const RESERVED_START: usize = HELD_START + 1;
 
 pub const RESERVED_SIZE: usize = 2;
 
-pub const PAGE_START: usize = 104;
+pub const PAGE_START: usize = RESERVED_START + RESERVED_SIZE;
 
-pub const MOST_GROUPS: u32 = 16;
+pub const MEMORY_SIZE: usize = PAGE_START + lockpage::PAGE_SIZE;
 
 // In the place of a held group: no page is held.
 pub const NONE: u8 = 255;
