@@ -25,17 +25,23 @@ block-copied l room r p from s h ef er =
 span : (from n : ℕ) → from + n - from ≡ n
 span from n = omega arith
 
--- a block whose part was lent and came back filled
+-- a block whose part was lent and came back as r
+pub block-lent : (l r : List ℕ) (p from : ℕ) → length r ≡ blockSize → from ≡ blockStart p
+    → take from l ++ (r ++ drop (from + blockSize - from) (drop from l)) ≡ withBlock l p r
+unfolding withBlock
+block-lent l r p from s ef =
+    replaced-lent l from (from + blockSize - from) r (s ∙ sym (span from blockSize)) ∙ ap (λ (at : ℕ). replaced l at r) ef
+
+-- and as all of new, copied into it
 pub block-filled : (l new r : List ℕ) (p from : ℕ) → length new ≡ blockSize → from + blockSize ≤ length l → from ≡ blockStart p
     → r ≡ replaced (take (from + blockSize - from) (drop from l)) 0 (part new 0 blockSize)
     → take from l ++ (r ++ drop (from + blockSize - from) (drop from l)) ≡ withBlock l p new
-unfolding withBlock
 block-filled l new r p from s h ef er =
     let lent : List ℕ = take (from + blockSize - from) (drop from l) in
     let room : length lent ≡ blockSize =
     length-take-le (from + blockSize - from) (drop from l) (omega (arith, length-drop from l)) ∙ span from blockSize in
     let filled : r ≡ new = all-copied lent new r 0 blockSize s er ∙ replaced-all lent new (s ∙ sym room) in
-    replaced-lent l from (from + blockSize - from) r (ap length filled ∙ s ∙ sym (span from blockSize)) ∙ ap₂ (replaced l) ef filled
+    block-lent l r p from (ap length filled ∙ s) ef ∙ ap (withBlock l p) filled
 
 -- a stretch's end, a stretch cut out, and one lent and come back
 pub stretch-end : (disk : List ℕ) (g from : ℕ) → HasGroup disk g → from ≡ groupStart g → from + groupSize ≤ length disk
