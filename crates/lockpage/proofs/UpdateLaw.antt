@@ -12,6 +12,7 @@ use Rattle.lockpage.specs.declared.State.{State}
 use Rattle.lockpage.specs.declared.State.the-variants.{Free, Frozen, Counting}
 use Rattle.lockpage.specs.declared.Update.{Update}
 use Rattle.lockpage.specs.declared.Update.the-variants.{Write, Unfreeze, Increment}
+use Rattle.lockpage.specs.Size.{wordSize}
 use Rattle.lockpage.specs.Entry.{EntryFits, timeOfWrite, flag, frozen, unfrozen, isFrozen}
 use Rattle.lockpage.specs.Update.{latestTime, longestLock, latestExpiry, expiryAt, updated, allowed, wordLimit, withinLimit}
 use Rattle.lockpage.proofs.EntryLaw.{flag-stampOf, timeOfWrite-stampOf}
@@ -48,7 +49,7 @@ within-most e h = go (isFrozen (e .stamp)) h
 
 -- ---- what is stored
 
-pub stamp-small : (u : Update) (now : ℕ) (e : Entry) → now ≤ latestTime → EntryFits e → updated u now e .stamp < 256 ^ 4
+pub stamp-small : (u : Update) (now : ℕ) (e : Entry) → now ≤ latestTime → EntryFits e → updated u now e .stamp < 256 ^ wordSize
 unfolding updated timeOfWrite
 stamp-small (Write lock) now e h f = omega arith
 stamp-small Unfreeze now e h f = omega (arith, f .stamp)

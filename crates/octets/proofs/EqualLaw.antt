@@ -1,6 +1,7 @@
 -- Laws of the comparison of two lists, and of bits that differ. Assumes nothing.
 use mathlib.Core.Path.{_≡_, refl, ap, ap₂, sym, subst, _∙_}
 use mathlib.Core.Bool.{Bool, true, false, _&&_, false≢true}
+use mathlib.Mathlib.Data.Bool.Basic.{and-elim-left, and-elim-right}
 use mathlib.Core.List.{List, [], _∷_}
 use Prim.Native.Nat.{ℕ, _+_, _≤_, _<_}
 use native.Mathlib.Omega.{arith}
@@ -14,10 +15,6 @@ use Rattle.octets.specs.Part.{part, repeated, equal}
 use Rattle.octets.proofs.PartLaw.{part-length, part-at}
 use Rattle.octets.proofs.RepeatedLaw.{repeated-length, repeated-at}
 
-both : (a b : Bool) → (a && b) ≡ true → (a ≡ true) × (b ≡ true)
-both true b e = (refl, e)
-both false b e = absurd (false≢true e)
-
 pub equal-refl : (l : List ℕ) → equal l l ≡ true
 unfolding equal
 equal-refl [] = refl
@@ -29,7 +26,8 @@ equal-true [] [] e = refl
 equal-true [] (y ∷ b) e = absurd (false≢true e)
 equal-true (x ∷ a) [] e = absurd (false≢true e)
 equal-true (x ∷ a) (y ∷ b) e =
-    ap₂ (λ (h : ℕ) (t : List ℕ). h ∷ t) (eqb-true x y (both (eqb x y) (equal a b) e .0)) (equal-true a b (both (eqb x y) (equal a b) e .1))
+    ap₂ (λ (h : ℕ) (t : List ℕ). h ∷ t) (eqb-true x y (and-elim-left (eqb x y) (equal a b) e))
+    (equal-true a b (and-elim-right (eqb x y) (equal a b) e))
 
 pub equal-yes : (a b : List ℕ) → a ≡ b → equal a b ≡ true
 equal-yes a b e = subst (λ (x : List ℕ). equal a x ≡ true) e (equal-refl a)

@@ -2,6 +2,7 @@
 -- Assumes nothing.
 use mathlib.Core.Path.{_≡_, ap, sym, subst, _∙_}
 use mathlib.Core.Bool.{Bool, true, false, not, false≢true}
+use mathlib.Mathlib.Data.Bool.Basic.{eq-true-of-not-eq-false', eq-false-of-not-eq-true'}
 use mathlib.Core.List.{List}
 use Prim.Native.Nat.{ℕ, _-_, _≤_, _<_}
 use native.Mathlib.Omega.{arith}
@@ -19,12 +20,10 @@ use Rattle.validity.proofs.ValidLaw.{UnusedFrom, ReservedZero, decided,
 
 -- a comparison that says no, and one that says yes
 not-equal : (r : Bool) (a b : List ℕ) → r ≡ equal a b → not r ≡ true → a ≡ b → ⊥
-not-equal true a b e n q = absurd (false≢true n)
-not-equal false a b e n q = absurd (false≢true (e ∙ equal-yes a b q))
+not-equal r a b e n q = false≢true (sym (eq-false-of-not-eq-true' n) ∙ e ∙ equal-yes a b q)
 
 are-equal : (r : Bool) (a b : List ℕ) → r ≡ equal a b → not r ≡ false → a ≡ b
-are-equal true a b e n = equal-true a b (sym e)
-are-equal false a b e n = absurd (false≢true (sym n))
+are-equal r a b e n = equal-true a b (sym e ∙ eq-true-of-not-eq-false' n)
 
 -- the counts that no group has, from place at on
 module _ (m : List ℕ) (r : Bool) (at : ℕ) (place : at ≡ countStart (groups m))

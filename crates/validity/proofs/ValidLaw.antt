@@ -1,6 +1,7 @@
 -- Laws of validity: what a valid memory says, clause by clause, and which changes keep it. Assumes nothing.
 use mathlib.Core.Path.{_≡_, refl, ap, sym, subst, _∙_}
 use mathlib.Core.Bool.{Bool, true, false, _&&_, _||_, not, false≢true}
+use mathlib.Mathlib.Data.Bool.Basic.{and-intro, and-elim-left, and-elim-right, eq-true-of-not-eq-false'}
 use mathlib.Core.List.{List}
 use Prim.Native.Nat.{ℕ, _+_, _*_, _-_, _^_, _≤_, _<_}
 use native.Mathlib.Omega.{arith}
@@ -44,12 +45,7 @@ pub record Valid (m : List ℕ) : Type 0 where
 -- ---- the clauses and the test
 
 both : (a b : Bool) → (a && b) ≡ true → (a ≡ true) × (b ≡ true)
-both true b e = (refl, e)
-both false b e = absurd (false≢true e)
-
-and-yes : (a b : Bool) → a ≡ true → b ≡ true → (a && b) ≡ true
-and-yes true b ea eb = eb
-and-yes false b ea eb = ea
+both a b e = (and-elim-left a b e, and-elim-right a b e)
 
 or-else : (a b : Bool) → (a || b) ≡ true → a ≡ false → b ≡ true
 or-else true b e f = absurd (false≢true (sym f))
@@ -58,14 +54,6 @@ or-else false b e f = e
 or-yes : (a b : Bool) → (a ≡ false → b ≡ true) → (a || b) ≡ true
 or-yes true b f = refl
 or-yes false b f = f refl
-
-not-yes : (a : Bool) → a ≡ true → not a ≡ false
-not-yes true e = refl
-not-yes false e = absurd (false≢true e)
-
-not-no : (a : Bool) → not a ≡ false → a ≡ true
-not-no true e = refl
-not-no false e = absurd (false≢true (sym e))
 
 module _ (m : List ℕ) where
   pub facts : valid m ≡ true → Valid m
@@ -91,22 +79,22 @@ module _ (m : List ℕ) where
         reserved = equal-true _ _ (h .0);
         counted = λ n. leb-true 1 (count m (held m)) (or-else _ _ (i .0) (ne-eqb (held m) none n));
         unspent = λ n. leb-true (count m (held m)) countLimit (or-else _ _ (j .0) (ne-eqb (held m) none n));
-        blank = λ n. equal-true _ _ (or-else _ _ (k .0) (not-yes _ (eq-eqb (held m) none n)));
+        blank = λ n. equal-true _ _ (or-else _ _ (k .0) (ap not (eq-eqb (held m) none n)));
       }
 
   pub is-valid : Valid m → valid m ≡ true
   unfolding valid every
   is-valid v =
-      and-yes _ _ (eq-eqb (length m) memorySize (v .size))
-      (and-yes _ _ (le-leb 1 (groups m) (v .least))
-      (and-yes _ _ (le-leb (groups m) mostGroups (v .most))
-      (and-yes _ _ (or-yes _ _ (λ n. lt-ltb (held m) (groups m) (v .group (eqb-false (held m) none n))))
-      (and-yes _ _ (le-leb (lastTime m) latestTime (v .time))
-      (and-yes _ _ (equal-yes _ _ (v .unused))
-      (and-yes _ _ (equal-yes _ _ (v .reserved))
-      (and-yes _ _ (or-yes _ _ (λ n. le-leb 1 (count m (held m)) (v .counted (eqb-false (held m) none n))))
-      (and-yes _ _ (or-yes _ _ (λ n. le-leb (count m (held m)) countLimit (v .unspent (eqb-false (held m) none n))))
-      (and-yes _ _ (or-yes _ _ (λ n. equal-yes _ _ (v .blank (eqb-true (held m) none (not-no _ n))))) refl)))))))))
+      and-intro (eq-eqb (length m) memorySize (v .size))
+      (and-intro (le-leb 1 (groups m) (v .least))
+      (and-intro (le-leb (groups m) mostGroups (v .most))
+      (and-intro (or-yes _ _ (λ n. lt-ltb (held m) (groups m) (v .group (eqb-false (held m) none n))))
+      (and-intro (le-leb (lastTime m) latestTime (v .time))
+      (and-intro (equal-yes _ _ (v .unused))
+      (and-intro (equal-yes _ _ (v .reserved))
+      (and-intro (or-yes _ _ (λ n. le-leb 1 (count m (held m)) (v .counted (eqb-false (held m) none n))))
+      (and-intro (or-yes _ _ (λ n. le-leb (count m (held m)) countLimit (v .unspent (eqb-false (held m) none n))))
+      (and-intro (or-yes _ _ (λ n. equal-yes _ _ (v .blank (eqb-true (held m) none (eq-true-of-not-eq-false' n))))) refl)))))))))
 
   -- a test that has the facts' truth is the test
   pub decided : (b : Bool) → (b ≡ true → Valid m) → (Valid m → b ≡ true) → b ≡ valid m
