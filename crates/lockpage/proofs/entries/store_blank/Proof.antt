@@ -31,7 +31,9 @@ loop-again c =
     )
 
 returns : tie.Need-returns Inv-loop μ-loop
-returns c = entries-end _ _ _ (c .before .before .before .pre) (omega (arith, c .loop-test .left, c .before .loop .inv .0)) (c .before .loop .inv .1 .1)
+returns c =
+    let inv = c .before .loop .inv in
+    entries-end _ _ _ (c .before .before .before .pre) (omega (arith, c .loop-test .left, inv .0)) (inv .1 .1)
 
 pub store-blank-spec : {M : Type 1} → statement M
 store-blank-spec =
