@@ -1,4 +1,4 @@
--- A memory of bytes: its fields are bytes and small numbers, and a change leaves it bytes. Assumes nothing.
+-- The range of the fields of a memory of bytes, and that a change leaves it a memory of bytes. Assumes nothing.
 use mathlib.Core.List.{List}
 use mathlib.Core.Path.{_≡_}
 use Prim.Native.Nat.{ℕ, _-_, _^_, _<_}
@@ -48,7 +48,7 @@ module _ (m : List ℕ) (b : AreBytes m) where
 
   pub withCount-bytes : (g n : ℕ) → AreBytes (withCount m g n)
   unfolding withCount
-  withCount-bytes g n = withNumber-are m (countStart g) countSize n b
+  withCount-bytes g n = withNumber-are m _ countSize n b
 
   pub withNoCounts-bytes : AreBytes (withNoCounts m)
   unfolding withNoCounts
