@@ -1,7 +1,7 @@
 -- What the code's loads and stores make of the held page, in the definitions' words. Assumes nothing.
 use mathlib.Core.Path.{_≡_, ap, ap₂, sym, _∙_}
 use mathlib.Core.List.{List, _++_}
-use Prim.Native.Nat.{ℕ, _+_, _*_, _≤_, _<_}
+use Prim.Native.Nat.{ℕ, _<_}
 use native.Mathlib.Omega.{arith}
 use lib.ListN.{length, take, drop}
 use Rattle.octets.specs.Part.{part, replaced, repeated}
@@ -10,9 +10,9 @@ use Rattle.octets.proofs.PartLaw.{part-length}
 use Rattle.octets.proofs.RepeatedLaw.{repeated-length}
 use Rattle.octets.proofs.ReplacedLaw.{replaced-all, replaced-lent, part-copied, all-copied}
 use Rattle.lockpage.specs.declared.Entry.{Entry}
-use Rattle.lockpage.specs.Size.{entrySize, entriesPerPage, pageSize}
+use Rattle.lockpage.specs.Size.{entriesPerPage, pageSize}
 use Rattle.lockpage.specs.Page.{withEntry}
-use Rattle.lockpage.proofs.PageLaw.{withEntry-length}
+use Rattle.lockpage.proofs.PageLaw.{entry-room, withEntry-length}
 use Rattle.memory.specs.Layout.{memorySize, heldStart, byteSize, pageStart}
 use Rattle.memory.specs.Memory.{none, heldPage, withHeld, withHeldPage, holding, holdingNone}
 
@@ -27,8 +27,7 @@ module _ (m r : List ℕ) (size : length m ≡ memorySize) where
   unfolding withHeldPage heldPage part
   entry-stored i e h er =
       let page : length (part m pageStart pageSize) ≡ pageSize = part-length m pageStart pageSize (omega arith) in
-      let room : entrySize * i + entrySize ≤ length (part m pageStart pageSize) = omega arith in
-      replaced-lent m pageStart pageSize r (ap length er ∙ withEntry-length (part m pageStart pageSize) i e room ∙ page)
+      replaced-lent m pageStart pageSize r (ap length er ∙ withEntry-length (part m pageStart pageSize) i e (entry-room (part m pageStart pageSize) i page h) ∙ page)
       ∙ ap (replaced m pageStart) er
 
 -- the held group stored, then its page

@@ -20,9 +20,9 @@ use Rattle.lockpage.specs.Entry.{entry, entryBytes, entryOf, EntryFits}
 use Rattle.lockpage.specs.Page.{entryAt, withEntry, entries, blankEntry, blankPage}
 use Rattle.lockpage.proofs.EntryLaw.{entryBytes-length, entryBytes-are, entryOf-bytes, bytes-entryOf, entryOf-fits}
 
--- an entry's end in a page
-entry-end : (p : List ℕ) (i : ℕ) → length p ≡ pageSize → i < entriesPerPage → entrySize * i + entrySize ≤ length p
-entry-end p i l h = omega arith
+-- a page has room for each of its entries
+pub entry-room : (p : List ℕ) (i : ℕ) → length p ≡ pageSize → i < entriesPerPage → entrySize * i + entrySize ≤ length p
+entry-room p i l h = omega arith
 
 module _ (p : List ℕ) (i : ℕ) (e : Entry) (room : entrySize * i + entrySize ≤ length p) where
   pub withEntry-length : length (withEntry p i e) ≡ length p
