@@ -10,7 +10,7 @@ use Rattle.octets.specs.Part.{AreBytes, part, replaced}
 use Rattle.octets.proofs.OrderLaw.{apart}
 use Rattle.octets.proofs.BelowLaw.{below-part, below-replaced}
 use Rattle.octets.proofs.PartLaw.{part-length, part-part}
-use Rattle.octets.proofs.ReplacedLaw.{replaced-length, part-same, part-other, replaced-again, replaced-within}
+use Rattle.octets.proofs.ReplacedLaw.{replaced-length, part-same, part-other, replaced-within}
 use Rattle.lockpage.specs.Size.{blockSize}
 use Rattle.addressing.specs.Map.{groupBlocks, groupSize, diskSize, dataBlocks, groupOf, groupStart, blockStart}
 use Rattle.disk.specs.Disk.{block, withBlock, stretch, withStretch, HasGroup}
@@ -34,11 +34,6 @@ module _ (l : List ℕ) (q : ℕ) (new : List ℕ) (size : length new ≡ blockS
       go : (p < q) ⊎ (q < p) → (blockStart p + blockSize ≤ blockStart q) ⊎ (blockStart q + length new ≤ blockStart p)
       go (inl h) = inl (blockStart-below p q h)
       go (inr h) = inr (omega (arith, blockStart-below q p h))
-
-  -- the same block twice: the second store stands
-  pub withBlock-again : (newer : List ℕ) → length newer ≡ blockSize → withBlock (withBlock l q new) q newer ≡ withBlock l q newer
-  unfolding withBlock
-  withBlock-again newer s = replaced-again l (blockStart q) new newer (size ∙ sym s) (omega arith)
 
 pub block-length : (l : List ℕ) (p : ℕ) → blockStart p + blockSize ≤ length l → length (block l p) ≡ blockSize
 unfolding block

@@ -66,10 +66,6 @@ pub flag-stampOf : (time f : ℕ) → f < 2 → flag (stampOf time f) ≡ f
 unfolding flag
 flag-stampOf time f h = omega arith
 
-pub stampOf-own : (e : Entry) → stampOf (timeOfWrite e) (flag (e .stamp)) ≡ e .stamp
-unfolding timeOfWrite flag
-stampOf-own e = omega arith
-
 pub frozen-true : (stamp : ℕ) → isFrozen stamp ≡ true → flag stamp ≡ frozen
 unfolding isFrozen
 frozen-true stamp h = eqb-true (flag stamp) frozen h
