@@ -1,4 +1,9 @@
 -- The claims of specs/Claims.antt, proved. Assumes nothing.
+use mathlib.Core.Path.{refl}
+use native.Mathlib.Omega.{arith}
+use Rattle.octets.specs.Number.{bytes}
+use Rattle.lockpage.specs.Entry.{entryBytes, flag}
+use Rattle.lockpage.specs.Page.{blankEntry}
 use Rattle.lockpage.specs.Claims.{ReadAndWrittenBack, WrittenAndReadBack, StateOfEntry, UpdateFits, Blank, LeftOfUnfrozen}
 use Rattle.lockpage.proofs.EntryLaw.{entryOf-bytes, bytes-entryOf, frozen-yes, frozen-no}
 use Rattle.lockpage.proofs.StateLaw.{state-frozen, state-counting, state-free, left-ahead, left-past}
@@ -27,7 +32,14 @@ unfolding UpdateFits
 update-fits = updated-fits
 
 pub blank : Blank
-blank = record { size = blankPage-length; entries = blankPage-at }
+unfolding entryBytes bytes flag
+blank =
+    record {
+      bytes = refl;
+      free = λ now. state-free now blankEntry (frozen-no (blankEntry .stamp) refl) (omega arith);
+      size = blankPage-length;
+      entries = blankPage-at;
+    }
 
 pub left-of-unfrozen : LeftOfUnfrozen
 unfolding LeftOfUnfrozen

@@ -2,7 +2,7 @@
 use Prim.Native.Nat.{ℕ, suc, _+_, _-_, _≤_, _<_}
 use mathlib.Core.Path.{_≡_}
 use mathlib.Core.Bool.{true}
-use mathlib.Core.List.{List}
+use mathlib.Core.List.{List, [], _∷_}
 use lib.ListN.{length}
 use lib.IntN.{pos, negsuc}
 use Rattle.octets.specs.Part.{AreBytes}
@@ -36,8 +36,10 @@ unfoldable pub UpdateFits : Type 0
 UpdateFits = (u : Update) (now : ℕ) (e : Entry) → now ≤ latestTime → EntryFits e → withinLimit (updated u now e) ≡ true
     → EntryFits (updated u now e)
 
--- the blank page is a page of blank entries
+-- the blank page is a page of blank entries, "00 00 00 00 01 00 00 00", and a block with such an entry is free at every time
 pub record Blank : Type 0 where
+  pub bytes : entryBytes blankEntry ≡ 0 ∷ 0 ∷ 0 ∷ 0 ∷ 1 ∷ 0 ∷ 0 ∷ 0 ∷ []
+  pub free : (now : ℕ) → state now blankEntry ≡ Free
   pub size : length blankPage ≡ pageSize
   pub entries : (i : ℕ) → i < entriesPerPage → entryAt blankPage i ≡ blankEntry
 

@@ -29,7 +29,8 @@ latestExpiry = 4294967294
 unfoldable pub expiryAt : ℕ → ℕ → ℕ
 expiryAt now lock = now + lock
 
--- a write: "Word = lock, stamp = 2 × now". An unfreeze: "word = now + lock, f = 1". An increment: "word + value".
+-- a write: "Word = lock, stamp = 2 × now". An unfreeze: "word = now + lock, f = 1"; the time of write stays,
+-- as the edge value D1 07 has it. An increment: "word + value".
 unfoldable pub updated : Update → ℕ → Entry → Entry
 updated (Write lock) now e = entry lock (stampOf now frozen)
 updated Unfreeze now e = entry (expiryAt now (e .word)) (stampOf (timeOfWrite e) unfrozen)
