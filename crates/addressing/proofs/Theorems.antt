@@ -1,10 +1,13 @@
 -- The claims of specs/Claims.antt, proved. Assumes nothing.
 use Prim.Native.Nat.{ℕ}
-use mathlib.Core.Path.{ap, _∙_}
+use mathlib.Core.Path.{refl, ap, _∙_}
 use native.Mathlib.Omega.{arith}
 use Rattle.addressing.specs.Map.{groupOf, placeOf, pagePlace, blockStart}
-use Rattle.addressing.specs.Claims.{Inside, Apart, Within, StretchesApart, StretchesCover}
+use Rattle.addressing.specs.Claims.{PapersSizes, Inside, Apart, Within, StretchesApart, StretchesCover}
 use Rattle.addressing.proofs.MapLaw.{placeOf-below, physical-place, pageBlock-place, physical-below, pageBlock-below, physical-same, pageBlock-same, physical-page, blockStart-end, blockStart-group, groupStart-apart, in-stretch}
+
+pub papers-sizes : PapersSizes
+papers-sizes = record { block = refl; data-blocks = refl; blocks = refl; bytes = refl }
 
 pub inside : (groups : ℕ) → Inside groups
 inside groups =

@@ -2,7 +2,14 @@
 use Prim.Native.Nat.{ℕ, _+_, _*_, _≤_, _<_}
 use mathlib.Core.Path.{_≡_}
 use Rattle.lockpage.specs.Size.{blockSize}
-use Rattle.addressing.specs.Map.{groupBlocks, groupSize, diskSize, dataBlocks, groupOf, placeOf, pagePlace, physical, pageBlock, groupStart, blockStart}
+use Rattle.addressing.specs.Map.{groupData, groupBlocks, groupSize, diskSize, dataBlocks, groupOf, placeOf, pagePlace, physical, pageBlock, groupStart, blockStart}
+
+-- "A block is 512 bytes. A group is 64 data blocks and then one lock page", 33,280 bytes
+pub record PapersSizes : Type 0 where
+  pub block : blockSize ≡ 512
+  pub data-blocks : groupData ≡ 64
+  pub blocks : groupBlocks ≡ 65
+  pub bytes : groupSize ≡ 33280
 
 -- a box of G groups has 65 × G blocks: each data block and each page is one of them
 pub record Inside (groups : ℕ) : Type 0 where
