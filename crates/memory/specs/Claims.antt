@@ -8,7 +8,7 @@ use lib.Dec.{eqb}
 use Rattle.octets.specs.Part.{repeated}
 use Rattle.lockpage.specs.Size.{pageSize}
 use Rattle.memory.specs.Layout.{memorySize, saltStart, saltSize, countSize, mostGroups, countStart, timeStart, timeSize, groupsStart, heldStart, reservedStart, reservedSize, pageStart}
-use Rattle.memory.specs.Memory.{salt, count, lastTime, groups, held, none, heldPage, withSalt, withCount, withNoCounts, withLastTime, withHeldPage, holding, holdingNone, formatted}
+use Rattle.memory.specs.Memory.{salt, count, lastTime, groups, held, none, heldPage, withSalt, withCount, withNoCounts, withLastTime, withGroups, withHeld, withHeldPage, holding, holdingNone, formatted}
 
 -- ---- document 01's places
 
@@ -45,6 +45,8 @@ pub record Sets (m : List ℕ) : Type 0 where
       → Reads (withCount m g n) (salt m) (changed (count m) g n) (lastTime m) (groups m) (held m) (heldPage m)
   pub counts-cleared : Reads (withNoCounts m) (salt m) (λ k. 0) (lastTime m) (groups m) (held m) (heldPage m)
   pub time-set : (t : ℕ) → t < 256 ^ timeSize → Reads (withLastTime m t) (salt m) (count m) t (groups m) (held m) (heldPage m)
+  pub groups-set : (g : ℕ) → g < 256 → Reads (withGroups m g) (salt m) (count m) (lastTime m) g (held m) (heldPage m)
+  pub held-set : (g : ℕ) → g < 256 → Reads (withHeld m g) (salt m) (count m) (lastTime m) (groups m) g (heldPage m)
   pub page-set : (p : List ℕ) → length p ≡ pageSize → Reads (withHeldPage m p) (salt m) (count m) (lastTime m) (groups m) (held m) p
   pub page-held : (g : ℕ) (p : List ℕ) → g < 256 → length p ≡ pageSize
       → Reads (holding m g p) (salt m) (count m) (lastTime m) (groups m) g p
