@@ -51,10 +51,9 @@ bytes-entryOf l b e =
     ∙ sym (part-add l 0 wordSize wordSize)
     ∙ part-all l entrySize (omega arith)
 
-pub entryOf-fits : (l : List ℕ) → AreBytes l → length l ≡ entrySize → EntryFits (entryOf l)
+pub entryOf-fits : (l : List ℕ) → AreBytes l → EntryFits (entryOf l)
 unfolding entryOf
-entryOf-fits l b e =
-    record { word = numberAt-small l 0 wordSize b (omega arith); stamp = numberAt-small l wordSize wordSize b (omega arith) }
+entryOf-fits l b = record { word = numberAt-small l 0 wordSize b; stamp = numberAt-small l wordSize wordSize b }
 
 -- ---- the stamp
 

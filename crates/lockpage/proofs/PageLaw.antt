@@ -56,16 +56,20 @@ module _ (p : List ℕ) (i : ℕ) (b : AreBytes p) (room : entrySize * i + entry
       bytes-entryOf (part p (entrySize * i) entrySize) (below-part 256 p (entrySize * i) entrySize b)
       (part-length p (entrySize * i) entrySize room)
 
-  pub entryAt-fits : EntryFits (entryAt p i)
-  unfolding entryAt
-  entryAt-fits =
-      entryOf-fits (part p (entrySize * i) entrySize) (below-part 256 p (entrySize * i) entrySize b)
-      (part-length p (entrySize * i) entrySize room)
-
   -- an entry read and written back
   pub withEntry-own : withEntry p i (entryAt p i) ≡ p
   unfolding withEntry
   withEntry-own = ap (replaced p (entrySize * i)) entryAt-bytes ∙ replaced-own p (entrySize * i) entrySize room
+
+-- an entry of a list of bytes, however long, has its eight bytes
+pub entryAt-fits : (p : List ℕ) (i : ℕ) → AreBytes p → EntryFits (entryAt p i)
+unfolding entryAt
+entryAt-fits p i b = entryOf-fits (part p (entrySize * i) entrySize) (below-part 256 p (entrySize * i) entrySize b)
+
+-- an entry at the front of a list
+pub entryAt-front : (e : Entry) (l : List ℕ) → EntryFits e → entryAt (entryBytes e ++ l) 0 ≡ e
+unfolding entryAt
+entryAt-front e l f = ap entryOf (part-first (entryBytes e) l entrySize (entryBytes-length e)) ∙ entryOf-bytes e f
 
 -- ---- loads and stores, as the code makes them
 

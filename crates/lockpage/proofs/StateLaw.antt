@@ -5,20 +5,22 @@ use mathlib.Core.Bool.{Bool, true, false, cond}
 use Prim.Native.Nat.{ℕ, zero, suc, _+_, _-_, _≤_, _<_, _^_}
 use native.Mathlib.Omega.{arith}
 use borrow.Author.Tests.{ltb-true, ltb-false, lt-ltb, le-ltb}
-use lib.Dec.{ltb}
+use lib.Dec.{ltb, lit<}
+use lib.ListN.{length}
 use lib.IntN.{ℤ, pos, negsuc, _-ℤ_}
 use mir.Syntax.{w64}
 use mir.Val.{SFits}
-use Rattle.octets.specs.Part.{replaced}
+use Rattle.octets.specs.Part.{AreBytes, replaced}
 use Rattle.octets.specs.Number.{bytes, withNumber}
 use Rattle.octets.specs.Signed.{twos, signed}
+use Rattle.octets.proofs.NumberLaw.{bytes-length, bytes-are}
 use Rattle.octets.proofs.SignedLaw.{signed-twos}
 use Rattle.lockpage.specs.declared.Entry.{Entry}
 use Rattle.lockpage.specs.declared.State.{State}
 use Rattle.lockpage.specs.declared.State.the-variants.{Free, Frozen, Counting}
 use Rattle.lockpage.specs.Size.{wordSize}
 use Rattle.lockpage.specs.Entry.{flag, frozen, unfrozen, isFrozen}
-use Rattle.lockpage.specs.State.{state, timeLeft, timeLeftSize, timeLeftBytes}
+use Rattle.lockpage.specs.State.{state, stateNumber, timeLeft, timeLeftSize, timeLeftBytes}
 use Rattle.lockpage.proofs.EntryLaw.{frozen-true, frozen-false}
 
 module _ (now : ℕ) (e : Entry) where
@@ -35,7 +37,7 @@ module _ (now : ℕ) (e : Entry) where
   state-free f h = rw (state, f, le-ltb now (e .word) h)
 
   -- what a state says of the entry
-  abbrev Says : State → Type 0
+  abbrev pub Says : State → Type 0
   Says Free = (flag (e .stamp) ≡ unfrozen) × (e .word ≤ now)
   Says Frozen = flag (e .stamp) ≡ frozen
   Says Counting = (flag (e .stamp) ≡ unfrozen) × (now < e .word)
@@ -92,3 +94,17 @@ pub left-stored : (l r : List ℕ) (at now : ℕ) (e : Entry) (z : ℤ) → SFit
     → r ≡ replaced l at (timeLeftBytes now e)
 unfolding withNumber timeLeftBytes
 left-stored l r at now e z f er ez = er ∙ ap (λ (t : ℤ). replaced l at (bytes timeLeftSize (twos t))) (signed-twos z f ∙ ez)
+
+pub timeLeftBytes-length : (now : ℕ) (e : Entry) → length (timeLeftBytes now e) ≡ timeLeftSize
+unfolding timeLeftBytes
+timeLeftBytes-length now e = bytes-length timeLeftSize (twos (timeLeft now e))
+
+pub timeLeftBytes-are : (now : ℕ) (e : Entry) → AreBytes (timeLeftBytes now e)
+unfolding timeLeftBytes
+timeLeftBytes-are now e = bytes-are timeLeftSize (twos (timeLeft now e))
+
+pub stateNumber-byte : (s : State) → stateNumber s < 256
+unfolding stateNumber
+stateNumber-byte Free = lit< tt
+stateNumber-byte Frozen = lit< tt
+stateNumber-byte Counting = lit< tt

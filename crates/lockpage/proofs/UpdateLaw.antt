@@ -94,6 +94,10 @@ pub grown-stamp : (value now : ℕ) (e : Entry) → updated (Increment value) no
 unfolding updated
 grown-stamp value now e = refl
 
+pub grown-time : (value now : ℕ) (e : Entry) → timeOfWrite (updated (Increment value) now e) ≡ timeOfWrite e
+unfolding updated timeOfWrite
+grown-time value now e = refl
+
 -- ---- what an allowed update says of the state
 
 pub allowed-write : (lock : ℕ) (s : State) → allowed (Write lock) s ≡ true → s ≡ Free

@@ -1,15 +1,13 @@
 -- The range of the fields of a memory of bytes, and that a change leaves it a memory of bytes. Assumes nothing.
 use mathlib.Core.List.{List}
-use mathlib.Core.Path.{_≡_}
 use Prim.Native.Nat.{ℕ, _-_, _^_, _<_}
 use native.Mathlib.Omega.{arith}
-use lib.ListN.{length}
 use Rattle.octets.specs.Part.{AreBytes, repeated}
 use Rattle.octets.proofs.BelowLaw.{below-part, below-replaced}
 use Rattle.octets.proofs.RepeatedLaw.{repeated-below}
 use Rattle.octets.proofs.NumberLaw.{withNumber-are, numberAt-small}
 use Rattle.lockpage.specs.Size.{pageSize}
-use Rattle.memory.specs.Layout.{memorySize, saltStart, saltSize, countsStart, countSize, mostGroups, countStart, timeStart, timeSize, groupsStart, heldStart, byteSize, pageStart}
+use Rattle.memory.specs.Layout.{memorySize, saltStart, saltSize, countsStart, countSize, countStart, timeStart, timeSize, groupsStart, heldStart, byteSize, pageStart}
 use Rattle.memory.specs.Memory.{salt, count, lastTime, groups, held, none, heldPage, withSalt, withCount, withNoCounts, withLastTime, withGroups, withHeld, withHeldPage, holding, holdingNone, formatted}
 
 module _ (m : List ℕ) (b : AreBytes m) where
@@ -23,22 +21,21 @@ module _ (m : List ℕ) (b : AreBytes m) where
   unfolding heldPage
   heldPage-bytes = below-part 256 m pageStart pageSize b
 
-  module _ (size : length m ≡ memorySize) where
-    pub count-small : (g : ℕ) → g < mostGroups → count m g < 256 ^ countSize
-    unfolding count
-    count-small g h = numberAt-small m (countStart g) countSize b (omega arith)
+  pub count-small : (g : ℕ) → count m g < 256 ^ countSize
+  unfolding count
+  count-small g = numberAt-small m (countStart g) countSize b
 
-    pub lastTime-small : lastTime m < 256 ^ timeSize
-    unfolding lastTime
-    lastTime-small = numberAt-small m timeStart timeSize b (omega arith)
+  pub lastTime-small : lastTime m < 256 ^ timeSize
+  unfolding lastTime
+  lastTime-small = numberAt-small m timeStart timeSize b
 
-    pub groups-small : groups m < 256
-    unfolding groups
-    groups-small = omega (arith, numberAt-small m groupsStart byteSize b (omega arith))
+  pub groups-small : groups m < 256
+  unfolding groups
+  groups-small = numberAt-small m groupsStart byteSize b
 
-    pub held-small : held m < 256
-    unfolding held
-    held-small = omega (arith, numberAt-small m heldStart byteSize b (omega arith))
+  pub held-small : held m < 256
+  unfolding held
+  held-small = numberAt-small m heldStart byteSize b
 
   -- ---- the changes
 

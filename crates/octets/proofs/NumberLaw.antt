@@ -14,7 +14,7 @@ use lib.Seq.{drop-cons}
 use Rattle.octets.specs.Part.{AreBytes, part, replaced, repeated}
 use Rattle.octets.specs.Number.{number, bytes, numberAt, withNumber}
 use Rattle.octets.proofs.BelowLaw.{below-none, below-cons, below-head, below-tail, below-part, below-replaced}
-use Rattle.octets.proofs.PartLaw.{part-length, part-add}
+use Rattle.octets.proofs.PartLaw.{part-length, part-add, part-length-min}
 use Rattle.octets.proofs.ReplacedLaw.{replaced-length, replaced-sets, replaced-append, replaced-own, part-same, part-other}
 
 pub bytes-length : (k n : ℕ) → length (bytes k n) ≡ k
@@ -45,10 +45,17 @@ bytes-number (x ∷ l) h =
     let rest : (x + 256 * number l) / 256 ≡ number l = omega arith in
     ap₂ (λ (d r : ℕ). d ∷ bytes (length l) r) digit rest ∙ ap (λ (r : List ℕ). x ∷ r) (bytes-number l (below-tail 256 x l h))
 
-pub number-small : (l : List ℕ) → AreBytes l → number l < 256 ^ length l
+-- a number of at most k digits
+number-below : (k : ℕ) (l : List ℕ) → AreBytes l → length l ≤ k → number l < 256 ^ k
 unfolding number
-number-small [] h = lit< tt
-number-small (x ∷ l) h = omega (arith, below-head 256 x l h, number-small l (below-tail 256 x l h), pow-suc 256 (length l))
+number-below zero [] h e = lit< tt
+number-below zero (x ∷ l) h e = absurd (omega arith)
+number-below (suc k) [] h e = omega (arith, number-below k [] h (omega arith), pow-suc 256 k)
+number-below (suc k) (x ∷ l) h e =
+    omega (arith, below-head 256 x l h, number-below k l (below-tail 256 x l h) (omega arith), pow-suc 256 k)
+
+pub number-small : (l : List ℕ) → AreBytes l → number l < 256 ^ length l
+number-small l h = number-below (length l) l h (omega arith)
 
 -- two runs of digits
 pub number-append : (a b : List ℕ) → number (a ++ b) ≡ number a + 256 ^ length a * number b
@@ -93,10 +100,10 @@ pub withNumber-are : (l : List ℕ) (at k n : ℕ) → AreBytes l → AreBytes (
 unfolding withNumber
 withNumber-are l at k n h = below-replaced 256 l at (bytes k n) h (bytes-are k n)
 
-pub numberAt-small : (l : List ℕ) (at k : ℕ) → AreBytes l → at + k ≤ length l → numberAt l at k < 256 ^ k
+-- wherever it is read, also at the end of the list and past it
+pub numberAt-small : (l : List ℕ) (at k : ℕ) → AreBytes l → numberAt l at k < 256 ^ k
 unfolding numberAt
-numberAt-small l at k h e =
-    subst (λ (n : ℕ). number (part l at k) < 256 ^ n) (part-length l at k e) (number-small (part l at k) (below-part 256 l at k h))
+numberAt-small l at k h = number-below k (part l at k) (below-part 256 l at k h) (omega (arith, part-length-min l at k))
 
 -- what is read at the place of a store, and at another
 pub numberAt-same : (l : List ℕ) (at k n : ℕ) → at + k ≤ length l → n < 256 ^ k → numberAt (withNumber l at k n) at k ≡ n
