@@ -1,0 +1,136 @@
+-- What an accepted command stores and answers, kind by kind, after document 01, "Commands". The box is the one that the command gets,
+-- its last time set to now. Assumes nothing: these are definitions.
+use Prim.Native.Nat.{ℕ, _+_}
+use mathlib.Core.Bool.{true, false}
+use mathlib.Core.List.{List, [], _∷_, _++_}
+use lib.Dec.{eqb}
+use Rattle.octets.specs.Number.{bytes}
+use Rattle.lockpage.specs.declared.Entry.{Entry as PageEntry}
+use Rattle.lockpage.specs.declared.Update.{Update}
+use Rattle.lockpage.specs.declared.Update.the-variants.{Write, Unfreeze, Increment}
+use Rattle.lockpage.specs.Entry.{entryBytes}
+use Rattle.lockpage.specs.State.{state, stateNumber, timeLeftBytes}
+use Rattle.lockpage.specs.Update.{updated}
+use Rattle.lockpage.specs.Page.{entryAt, withEntry}
+use Rattle.addressing.specs.Map.{dataBlocks, groupOf, placeOf, physical, pageBlock}
+use Rattle.disk.specs.Disk.{block, withBlock}
+use Rattle.memory.specs.Memory.{count, groups, held, none, heldPage, withSalt, withCount, withNoCounts, holding, holdingNone}
+use Rattle.machine.specs.declared.Kind.{Kind}
+use Rattle.machine.specs.declared.Kind.the-variants.{Read, Entry, Page, Change, Sync, Restart, NewSalt, Identify, Unknown}
+use Rattle.machine.specs.Command.{Box, Command, broughtPage, broughtEntry}
+use Rattle.machine.specs.Tag.{tagged, currentPage}
+
+-- a block store: a physical block and what it gets
+pub record Store : Type 0 where
+  pub place : ℕ
+  pub bytes : List ℕ
+
+abbrev pub store : ℕ → List ℕ → Store
+store place bytes = record { place = place; bytes = bytes }
+
+-- the disk with the stores done, in their order
+unfoldable pub stored : List ℕ → List Store → List ℕ
+stored disk [] = disk
+stored disk (x ∷ xs) = stored (withBlock disk (x .place) (x .bytes)) xs
+
+-- an effect: the block stores in order, the memory after, and what is named in the answer
+pub record Effect : Type 0 where
+  pub stores : List Store
+  pub memory : List ℕ
+  pub named : List ℕ
+
+abbrev pub effectOf : List Store → List ℕ → List ℕ → Effect
+effectOf stores memory named = record { stores = stores; memory = memory; named = named }
+
+-- ---- kinds 1 to 3
+
+-- "the block's 512 bytes"
+unfoldable pub read : Box → ℕ → Effect
+read s a = effectOf [] (s .memory) (block (s .disk) (physical a))
+
+-- "its 8 bytes, then the time left as a signed 64-bit number, then the state in one byte"
+unfoldable pub entryAnswer : ℕ → PageEntry → List ℕ
+entryAnswer now e = entryBytes e ++ (timeLeftBytes now e ++ (stateNumber (state now e) ∷ []))
+
+unfoldable pub showEntry : Box → ℕ → ℕ → Effect
+showEntry s a now = effectOf [] (s .memory) (entryAnswer now (entryAt (currentPage s (groupOf a)) (placeOf a)))
+
+-- "block names a group; its current page and tag"
+unfoldable pub showPage : Box → ℕ → Effect
+showPage s g = effectOf [] (s .memory) (tagged (s .memory) g (currentPage s g))
+
+-- ---- the held page leaves
+
+-- "the held page, if any, goes to the disk"
+unfoldable pub putHeld : List ℕ → List Store
+putHeld m = elim (eqb (held m) none) [ true ↦ [] | false ↦ store (pageBlock (held m)) (heldPage m) ∷ [] ]
+
+-- "If another group is held, its page is first put on the disk."
+unfoldable pub evict : List ℕ → ℕ → List Store
+evict m g = elim (eqb (held m) g) [ true ↦ [] | false ↦ putHeld m ]
+
+-- ---- kinds 4 to 6
+
+-- "A write stores its data."
+unfoldable pub putContent : Update → ℕ → List ℕ → List Store
+putContent (Write lock) a content = store (physical a) content ∷ []
+putContent Unfreeze a content = []
+putContent (Increment value) a content = []
+
+-- they "work on the page brought in the proof"
+unfoldable pub changedPage : Update → Command → List ℕ
+changedPage u c = withEntry (broughtPage (c .proof)) (placeOf (c .block)) (updated u (c .now) (broughtEntry c))
+
+-- "The changed page becomes the held one, its group's count rises by 1"
+unfoldable pub changedMemory : List ℕ → ℕ → List ℕ → List ℕ
+changedMemory m g p = holding (withCount m g (count m g + 1)) g p
+
+-- "and the answer is that page with its new tag"
+unfoldable pub change : Update → Box → Command → Effect
+change u s c =
+    let g = groupOf (c .block) in
+    let p = changedPage u c in
+    let m = changedMemory (s .memory) g p in
+    effectOf (evict (s .memory) g ++ putContent u (c .block) (c .content)) m (tagged m g p)
+
+-- ---- kinds 7 to 10
+
+-- "the held page, if any, goes to the disk; held becomes 255 and its bytes zero"
+unfoldable pub sync : Box → Effect
+sync s = effectOf (putHeld (s .memory)) (holdingNone (s .memory)) []
+
+-- "the held page is lost, its group's count rises by 1, held becomes 255, its bytes zero; with none held only the last time changes"
+unfoldable pub restarted : List ℕ → List ℕ
+restarted m = elim (eqb (held m) none) [ true ↦ m | false ↦ withCount (holdingNone m) (held m) (count m (held m) + 1) ]
+
+unfoldable pub restart : Box → Effect
+restart s = effectOf [] (restarted (s .memory)) []
+
+-- "sync first, then the data become the salt and all counts 0"
+unfoldable pub salted : List ℕ → List ℕ → List ℕ
+salted m salt = withSalt (withNoCounts (holdingNone m)) salt
+
+unfoldable pub newSalt : Box → List ℕ → Effect
+newSalt s salt = effectOf (putHeld (s .memory)) (salted (s .memory) salt) []
+
+-- "G, then 64 × G, 4 bytes each"
+abbrev pub identifySize : ℕ
+identifySize = 4
+
+unfoldable pub identify : Box → Effect
+identify s =
+    let g = groups (s .memory) in
+    effectOf [] (s .memory) (bytes identifySize g ++ bytes identifySize (dataBlocks g))
+
+-- ---- by kind; an unknown one is never accepted
+
+unfoldable pub effect : Kind → Box → Command → Effect
+effect Read s c = read s (c .block)
+effect Entry s c = showEntry s (c .block) (c .now)
+effect Page s c = showPage s (c .block)
+effect (Change u) s c = change u s c
+effect Sync s c = sync s
+effect Restart s c = restart s
+effect NewSalt s c = newSalt s (c .content)
+effect Identify s c = identify s
+effect Unknown s c = effectOf [] (s .memory) []

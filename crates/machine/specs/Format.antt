@@ -1,0 +1,39 @@
+-- Formatting, after document 01, "Controller memory": "Formatting takes G and a salt". Assumes nothing: these are definitions.
+use Prim.Native.Nat.{ℕ, zero, suc}
+use mathlib.Core.Bool.{true, false, _&&_}
+use mathlib.Core.List.{List, [], _∷_, _++_}
+use lib.ListN.{length}
+use lib.Dec.{eqb, leb}
+use Rattle.lockpage.specs.Page.{blankPage}
+use Rattle.addressing.specs.Map.{diskSize, pageBlock}
+use Rattle.memory.specs.Layout.{memorySize, saltSize, mostGroups}
+use Rattle.memory.specs.Memory.{formatted}
+use Rattle.machine.specs.Command.{Box, boxOf}
+use Rattle.machine.specs.Question.{Question, Put, firstNo}
+use Rattle.machine.specs.Effect.{Store, store, stored}
+
+-- what formatting leaves: its number, memory and disk
+pub record Formatting : Type 0 where
+  pub number : ℕ
+  pub box : Box
+
+-- it "refuses by questions 1 (G, and 616 bytes of memory to fill), 2 and 6 (32 bytes of salt)"
+unfoldable pub formatQuestions : Box → ℕ → List ℕ → List Question
+formatQuestions s g salt =
+    Put 1 (leb 1 g && (leb g mostGroups && eqb (length (s .memory)) memorySize))
+    ∷ Put 2 (eqb (length (s .disk)) (diskSize g))
+    ∷ Put 6 (eqb (length salt) saltSize)
+    ∷ []
+
+-- it "sets every entry to 00 00 00 00 01 00 00 00": the pages of the groups below g, in their order
+unfoldable pub blankPages : ℕ → List Store
+blankPages zero = []
+blankPages (suc g) = blankPages g ++ (store (pageBlock g) blankPage ∷ [])
+
+unfoldable pub format : Box → ℕ → List ℕ → Formatting
+format s g salt =
+    let n = firstNo (formatQuestions s g salt) in
+    elim (eqb n 0) [
+      | true ↦ record { number = 0; box = boxOf (formatted g salt) (stored (s .disk) (blankPages g)) }
+      | false ↦ record { number = n; box = s }
+    ]

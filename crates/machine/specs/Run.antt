@@ -1,0 +1,22 @@
+-- A run: a list of events, each with the box that the one before left, after document 01, "The two runs". Assumes nothing: these are
+-- definitions.
+use mathlib.Core.List.{List, [], _∷_}
+use Rattle.machine.specs.Command.{Box, Command}
+use Rattle.machine.specs.Step.{step}
+
+-- what may happen to a box: a command is given
+pub data Event : Type 0 where
+  Given : Command → Event
+
+-- "Each command gets the memory and disk that the one before left, refused or not"
+abbrev pub after : Box → Event → Box
+after s (Given c) = step s c .box
+
+abbrev pub run : Box → List Event → Box
+run s [] = s
+run s (e ∷ es) = run (after s e) es
+
+-- P holds of each event of a run and of the box that it gets
+abbrev pub Throughout : (Box → Event → Type 0) → Box → List Event → Type 0
+Throughout P s [] = Unit
+Throughout P s (e ∷ es) = P s e × Throughout P (after s e) es

@@ -1,0 +1,34 @@
+-- One command, after document 01, "Commands" and "Questions". Assumes nothing: these are definitions.
+use Prim.Native.Nat.{ℕ, _-_}
+use mathlib.Core.Bool.{true, false}
+use mathlib.Core.List.{List, _++_}
+use lib.ListN.{length}
+use lib.Dec.{eqb}
+use Rattle.octets.specs.Part.{repeated}
+use Rattle.memory.specs.Memory.{withLastTime}
+use Rattle.machine.specs.Command.{Box, Command, Outcome, boxOf, kindOf, answerSize}
+use Rattle.machine.specs.Question.{refusal}
+use Rattle.machine.specs.Effect.{Effect, stored, effect}
+
+-- "An accepted command fills the answer with what is named and then zeros"
+unfoldable pub padded : List ℕ → List ℕ
+padded named = named ++ repeated (answerSize - length named) 0
+
+-- "and sets the last time to now"
+unfoldable pub timed : Box → ℕ → Box
+timed s now = boxOf (withLastTime (s .memory) now) (s .disk)
+
+-- the outcome of an effect on a disk
+unfoldable pub done : List ℕ → Effect → Outcome
+done disk e = record { number = 0; box = boxOf (e .memory) (stored disk (e .stores)); answer = padded (e .named) }
+
+-- "A no ends the command with that number; .. no buffer changes."
+unfoldable pub refused : ℕ → Box → Command → Outcome
+refused n s c = record { number = n; box = s; answer = c .answer }
+
+unfoldable pub step : Box → Command → Outcome
+step s c =
+    elim (eqb (refusal s c) 0) [
+      | true ↦ done (s .disk) (effect (kindOf c) (timed s (c .now)) c)
+      | false ↦ refused (refusal s c) s c
+    ]

@@ -1,0 +1,33 @@
+-- The tag of a page and a group's current page, after document 01, "Tag" and "Controller memory". Assumes nothing: these are
+-- definitions.
+use Prim.Native.Nat.{ℕ}
+use mathlib.Core.Bool.{true, false}
+use mathlib.Core.List.{List, _++_}
+use lib.Dec.{eqb}
+use Rattle.octets.specs.Number.{bytes}
+use Rattle.addressing.specs.Map.{pageBlock}
+use Rattle.disk.specs.Disk.{block}
+use Rattle.memory.specs.Layout.{countSize}
+use Rattle.memory.specs.Memory.{salt, count, held, heldPage}
+use Rattle.blake3.specs.Blake3.{digest}
+use Rattle.machine.specs.Command.{Box}
+
+-- "group in 8 bytes"
+abbrev pub groupNumberSize : ℕ
+groupNumberSize = 8
+
+-- "salt, group in 8 bytes, count in 4 bytes, page": the salt and the group's count are those of memory m
+unfoldable pub tagMessage : List ℕ → ℕ → List ℕ → List ℕ
+tagMessage m g page = salt m ++ (bytes groupNumberSize g ++ (bytes countSize (count m g) ++ page))
+
+-- "The tag is the 32-byte BLAKE3 hash" of it
+unfoldable pub tag : List ℕ → ℕ → List ℕ → List ℕ
+tag m g page = digest (tagMessage m g page)
+
+-- a page and its tag, as they are brought and answered
+unfoldable pub tagged : List ℕ → ℕ → List ℕ → List ℕ
+tagged m g page = page ++ tag m g page
+
+-- "The current page of a group is the held page if that group is held, else the one on the disk."
+unfoldable pub currentPage : Box → ℕ → List ℕ
+currentPage s g = elim (eqb (held (s .memory)) g) [ true ↦ heldPage (s .memory) | false ↦ block (s .disk) (pageBlock g) ]
