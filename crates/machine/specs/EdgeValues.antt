@@ -1,8 +1,7 @@
--- The starred values of document 01, "Edge values", as far as they concern the address map, entries and states. Each row has what the
--- definitions give on the left and what the paper says on the right, bytes in decimal. The one fact is in proofs/Computed.antt.
+-- The starred values of document 01, "Edge values". Each row has what the definitions give on the left and what the paper says on the
+-- right, bytes in decimal. The one fact is proofs/Theorems.antt, edge-values.
 use mathlib.Core.Path.{_≡_}
-use mathlib.Core.Bool.{true, false}
-use mathlib.Core.List.{List, [], _∷_}
+use mathlib.Core.List.{[], _∷_}
 use Prim.Native.Nat.{ℕ}
 use lib.IntN.{pos}
 use Rattle.octets.specs.Number.{bytes}
@@ -12,9 +11,12 @@ use Rattle.lockpage.specs.declared.Update.the-variants.{Write, Unfreeze, Increm
 use Rattle.lockpage.specs.Size.{wordSize}
 use Rattle.lockpage.specs.Entry.{entryBytes}
 use Rattle.lockpage.specs.State.{state, timeLeft, timeLeftBytes}
-use Rattle.lockpage.specs.Update.{updated, withinLimit}
+use Rattle.lockpage.specs.Update.{updated}
 use Rattle.lockpage.specs.Page.{blankEntry}
 use Rattle.addressing.specs.Map.{physical, pageBlock}
+use Rattle.machine.specs.Command.{Box, Command}
+use Rattle.machine.specs.Step.{step}
+use Rattle.machine.specs.Claims.{Accepted}
 
 -- "Lock 500 written at 1000", "Unfrozen at 1200", "Increment 100"
 abbrev pub written : Entry
@@ -29,6 +31,19 @@ grown = updated (Increment 100) 1200 unfrozen
 -- "Lock 0 unfrozen at 1200"
 abbrev pub unlocked : Entry
 unlocked = updated Unfreeze 1200 (updated (Write 0) 1000 blankEntry)
+
+-- a command with another value, which is a write's lock
+abbrev pub locking : Command → ℕ → Command
+locking c lock =
+    record {
+      kind = c .kind;
+      block = c .block;
+      now = c .now;
+      value = lock;
+      content = c .content;
+      proof = c .proof;
+      answer = c .answer;
+    }
 
 pub record EdgeValues : Type 0 where
   -- "63 lies at 63; 64 at 65; 1,023 at 1,038; the page of group 15 at 1,039."
@@ -52,6 +67,6 @@ pub record EdgeValues : Type 0 where
   pub past-left : timeLeftBytes 1750 unfrozen ≡ 206 ∷ 255 ∷ 255 ∷ 255 ∷ 255 ∷ 255 ∷ 255 ∷ 255 ∷ []
   -- "Lock 0 unfrozen at 1200 is free at 1200."
   pub unlocked-state : state 1200 unlocked ≡ Free
-  -- "Lock 2,147,483,647 passes, 2,147,483,648 gets 10": here, the answer to question 10
-  pub longest-lock : withinLimit (updated (Write 2147483647) 1000 blankEntry) ≡ true
-  pub longer-lock : withinLimit (updated (Write 2147483648) 1000 blankEntry) ≡ false
+  -- "Lock 2,147,483,647 passes, 2,147,483,648 gets 10": wherever a write with lock 0 passes
+  pub longest-lock : (s : Box) (c : Command) → c .kind ≡ 4 → Accepted s (locking c 0) → Accepted s (locking c 2147483647)
+  pub longer-lock : (s : Box) (c : Command) → c .kind ≡ 4 → Accepted s (locking c 0) → step s (locking c 2147483648) .number ≡ 10

@@ -1,2 +1,0 @@
--- The one fact about the table.
-pub mod Computed

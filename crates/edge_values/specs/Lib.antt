@@ -1,2 +1,0 @@
--- The starred edge values of document 01.
-pub mod EdgeValues

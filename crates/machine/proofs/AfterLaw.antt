@@ -1,0 +1,276 @@
+-- What an accepted command does to the box, kind by kind, as specs/After.antt claims. Assumes nothing.
+use mathlib.Core.Path.{_≡_, refl, ap, ap₂, sym, subst, _∙_}
+use mathlib.Core.Logic.{_⊎_}
+use mathlib.Core.List.{List}
+use Prim.Native.Nat.{ℕ, _+_, _<_}
+use native.Mathlib.Omega.{arith}
+use mathlib.Core.Bool.{Bool, true, false}
+use lib.Dec.{eqb}
+use borrow.Author.Tests.{eq-eqb}
+use Rattle.lockpage.specs.declared.Update.{Update}
+use Rattle.addressing.specs.Map.{groupOf, physical, pageBlock}
+use Rattle.disk.specs.Disk.{block}
+use Rattle.memory.specs.Layout.{mostGroups}
+use Rattle.memory.specs.Memory.{count, lastTime, groups, held, none}
+use Rattle.memory.specs.Claims.{changed}
+use Rattle.memory.proofs.FieldLaw.{page-dropped}
+use Rattle.validity.proofs.ValidLaw.{Valid}
+use Rattle.machine.specs.declared.Kind.{Kind}
+use Rattle.machine.specs.declared.Kind.the-variants.{Read, Entry, Page, Change, Sync, Restart, NewSalt, Identify, Unknown}
+use Rattle.machine.specs.Command.{Box, Command, Outcome, kindOf}
+use Rattle.machine.specs.Tag.{currentPage}
+use Rattle.machine.specs.Question.{refusal}
+use Rattle.machine.specs.Effect.{stored, effect, read, showEntry, showPage, putHeld, changedPage, change, sync, restarted, restart, newSalt, identify}
+use Rattle.machine.specs.Step.{step, timed, done}
+use Rattle.machine.specs.After.{countAfter, heldAfter, pageAfter, contentAfter, After}
+use Rattle.machine.proofs.CaseLaw.{same-or-not}
+use Rattle.machine.proofs.QuestionLaw.{all-yes}
+use Rattle.machine.proofs.StepLaw.{step-accepted}
+use Rattle.machine.proofs.TagLaw.{current-other, current-same}
+use Rattle.machine.proofs.PassedLaw.{Passed, Changes, passed, changes, passed-timed, changed-group, accepted-changes, timed-reads}
+use Rattle.machine.proofs.EffectLaw.{left, count-changed, untouched, count-unchanged, restarted-none, restarted-held-reads, restarted-time, restarted-groups, restarted-drops, salted-reads}
+use Rattle.machine.proofs.ChangeLaw.{change-on-disk, not-none, put-current, put-elsewhere, change-reads, change-page, change-content}
+
+-- ---- by kind
+
+-- the last time and the number of groups stay (the last time is set before), the counts and the held group are as claimed
+record Fields (k : Kind) (s : Box) (c : Command) (m : List ℕ) : Type 0 where
+  time : lastTime m ≡ lastTime (s .memory)
+  same-groups : groups m ≡ groups (s .memory)
+  counts : (g : ℕ) → g < groups (s .memory) → count m g ≡ countAfter k (s .memory) c g
+  held-group : held m ≡ heldAfter k (s .memory) c
+
+-- a field's law reaches as far as the box has groups
+in-memory : (m : List ℕ) → Valid m → (g : ℕ) → g < groups m → g < mostGroups
+in-memory m v g h = omega (arith, v .most)
+
+restart-fields : (s : Box) (c : Command) → Valid (s .memory) → Fields Restart s c (restarted (s .memory))
+restart-fields s c v =
+    let m = s .memory in
+    record {
+      time = restarted-time m v;
+      same-groups = restarted-groups m v;
+      counts =
+          λ g h.
+          same-or-not (held m) none
+          (λ n.
+          ap (λ (l : List ℕ). count l g) (restarted-none m n)
+          ∙ sym (count-unchanged (count m) (held m) (count m (held m) + 1) g (λ e. not-none m v g (held m) n h (sym e))))
+          (λ n. restarted-held-reads m v n .count g (in-memory m v g h));
+      held-group = restarted-drops m v;
+    }
+
+effect-fields : (k : Kind) (s : Box) (c : Command) → Passed k s c → ((u : Update) → k ≡ Change u → Changes u s c)
+    → Fields k s c (effect k s c .memory)
+unfolding effect read showEntry showPage change sync restart newSalt identify
+effect-fields Read s c q x = record { time = refl; same-groups = refl; counts = λ g h. refl; held-group = refl }
+effect-fields Entry s c q x = record { time = refl; same-groups = refl; counts = λ g h. refl; held-group = refl }
+effect-fields Page s c q x = record { time = refl; same-groups = refl; counts = λ g h. refl; held-group = refl }
+effect-fields (Change u) s c q x =
+    let r = change-reads u s c q (x u refl) in
+    record {
+      time = r .time;
+      same-groups = r .groups;
+      counts = λ g h. r .count g (in-memory (s .memory) (q .memory) g h);
+      held-group = r .held;
+    }
+effect-fields Sync s c q x =
+    let r = page-dropped (s .memory) (q .memory .size) in
+    record {
+      time = r .time;
+      same-groups = r .groups;
+      counts = λ g h. r .count g (in-memory (s .memory) (q .memory) g h);
+      held-group = r .held;
+    }
+effect-fields Restart s c q x = restart-fields s c (q .memory)
+effect-fields NewSalt s c q x =
+    let r = salted-reads (s .memory) (c .content) (q .memory .size) (q .content) in
+    record {
+      time = r .time;
+      same-groups = r .groups;
+      counts = λ g h. r .count g (in-memory (s .memory) (q .memory) g h);
+      held-group = r .held;
+    }
+effect-fields Identify s c q x = record { time = refl; same-groups = refl; counts = λ g h. refl; held-group = refl }
+effect-fields Unknown s c q x = record { time = refl; same-groups = refl; counts = λ g h. refl; held-group = refl }
+
+-- with none held after, the page is the one on the disk
+none-after : (s t : Box) (g : ℕ) → Valid (s .memory) → g < groups (s .memory) → held (t .memory) ≡ none
+    → currentPage t g ≡ block (t .disk) (pageBlock g)
+none-after s t g v h n = current-other t g (not-none (s .memory) v g (held (t .memory)) n h)
+
+effect-page : (k : Kind) (s : Box) (c : Command) → Passed k s c → ((u : Update) → k ≡ Change u → Changes u s c) → (g : ℕ)
+    → g < groups (s .memory) → currentPage (left s (effect k s c)) g ≡ pageAfter k s c g
+unfolding effect read showEntry showPage sync restart newSalt identify stored
+effect-page Read s c q x g h = refl
+effect-page Entry s c q x g h = refl
+effect-page Page s c q x g h = refl
+effect-page (Change u) s c q x g h = change-page u s c q (x u refl) g h
+effect-page Sync s c q x g h =
+    none-after s (left s (sync s)) g (q .memory) h (page-dropped (s .memory) (q .memory .size) .held)
+    ∙ put-current s g (q .memory) (q .disk) h
+effect-page Restart s c q x g h = none-after s (left s (restart s)) g (q .memory) h (restarted-drops (s .memory) (q .memory))
+effect-page NewSalt s c q x g h =
+    none-after s (left s (newSalt s (c .content))) g (q .memory) h
+    (salted-reads (s .memory) (c .content) (q .memory .size) (q .content) .held)
+    ∙ put-current s g (q .memory) (q .disk) h
+effect-page Identify s c q x g h = refl
+effect-page Unknown s c q x g h = refl
+
+effect-content : (k : Kind) (s : Box) (c : Command) → Passed k s c → ((u : Update) → k ≡ Change u → Changes u s c) → (a : ℕ)
+    → block (left s (effect k s c) .disk) (physical a) ≡ contentAfter k (s .disk) c a
+unfolding effect read showEntry showPage sync restart newSalt identify stored
+effect-content Read s c q x a = refl
+effect-content Entry s c q x a = refl
+effect-content Page s c q x a = refl
+effect-content (Change u) s c q x a = change-content u s c q (x u refl) a
+effect-content Sync s c q x a =
+    untouched (groups (s .memory)) (physical a) (s .disk) (putHeld (s .memory)) (put-elsewhere (s .memory) (q .memory) a) (q .disk)
+effect-content Restart s c q x a = refl
+effect-content NewSalt s c q x a =
+    untouched (groups (s .memory)) (physical a) (s .disk) (putHeld (s .memory)) (put-elsewhere (s .memory) (q .memory) a) (q .disk)
+effect-content Identify s c q x a = refl
+effect-content Unknown s c q x a = refl
+
+-- ---- an accepted command
+
+-- what is said of the box with the last time set is said of the box that the command gets
+current-timed : (k : Kind) (s : Box) (c : Command) → Passed k s c → (g : ℕ) → currentPage (timed s (c .now)) g ≡ currentPage s g
+unfolding timed
+current-timed k s c q g =
+    let r = timed-reads k s c q in
+    current-same s (timed s (c .now)) g (r .held) (r .page) refl
+
+page-timed : (k : Kind) (s : Box) (c : Command) → Passed k s c → (g : ℕ) → pageAfter k (timed s (c .now)) c g ≡ pageAfter k s c g
+unfolding timed
+page-timed Read s c q g = current-timed Read s c q g
+page-timed Entry s c q g = current-timed Entry s c q g
+page-timed Page s c q g = current-timed Page s c q g
+page-timed (Change u) s c q g =
+    ap (λ (p : List ℕ). elim (eqb (groupOf (c .block)) g) [ true ↦ changedPage u c | false ↦ p ]) (current-timed (Change u) s c q g)
+page-timed Sync s c q g = current-timed Sync s c q g
+page-timed Restart s c q g = refl
+page-timed NewSalt s c q g = current-timed NewSalt s c q g
+page-timed Identify s c q g = current-timed Identify s c q g
+page-timed Unknown s c q g = current-timed Unknown s c q g
+
+-- a count raised by 1, or not, where two memories have the same counts
+raised-same : (c d : ℕ → ℕ) (a g : ℕ) → c a ≡ d a → c g ≡ d g → changed c a (c a + 1) g ≡ changed d a (d a + 1) g
+raised-same c d a g x y = ap₂ (λ (i j : ℕ). elim (eqb g a) [ true ↦ i + 1 | false ↦ j ]) x y
+
+module _ (k : Kind) (s : Box) (c : Command) (q : Passed k s c) where
+  tm : List ℕ
+  tm = timed s (c .now) .memory
+
+  count-set-time : (g : ℕ) → g < groups (s .memory) → count tm g ≡ count (s .memory) g
+  unfolding tm
+  count-set-time g h = timed-reads k s c q .count g (in-memory (s .memory) (q .memory) g h)
+
+  held-set-time : held tm ≡ held (s .memory)
+  unfolding tm
+  held-set-time = timed-reads k s c q .held
+
+  restart-set-time : (g : ℕ) → g < groups (s .memory) → countAfter Restart tm c g ≡ countAfter Restart (s .memory) c g
+  restart-set-time g h =
+      let m = s .memory in
+      ap (λ (i : ℕ). changed (count tm) i (count tm i + 1) g) held-set-time
+      ∙ same-or-not (held m) none
+      (λ n.
+      let other : g ≡ held m → ⊥ = λ e. not-none m (q .memory) g (held m) n h (sym e) in
+      count-unchanged (count tm) (held m) (count tm (held m) + 1) g other
+      ∙ count-set-time g h
+      ∙ sym (count-unchanged (count m) (held m) (count m (held m) + 1) g other))
+      (λ n. raised-same (count tm) (count m) (held m) g (count-set-time (held m) (q .memory .group n)) (count-set-time g h))
+
+counts-timed : (k : Kind) (s : Box) (c : Command) → Passed k s c → ((u : Update) → k ≡ Change u → groupOf (c .block) < groups (s .memory))
+    → (g : ℕ) → g < groups (s .memory) → countAfter k (timed s (c .now) .memory) c g ≡ countAfter k (s .memory) c g
+unfolding tm
+counts-timed Read s c q x g h = count-set-time Read s c q g h
+counts-timed Entry s c q x g h = count-set-time Entry s c q g h
+counts-timed Page s c q x g h = count-set-time Page s c q g h
+counts-timed (Change u) s c q x g h =
+    raised-same (count (timed s (c .now) .memory)) (count (s .memory)) (groupOf (c .block)) g
+    (count-set-time (Change u) s c q (groupOf (c .block)) (x u refl)) (count-set-time (Change u) s c q g h)
+counts-timed Sync s c q x g h = count-set-time Sync s c q g h
+counts-timed Restart s c q x g h = restart-set-time Restart s c q g h
+counts-timed NewSalt s c q x g h = refl
+counts-timed Identify s c q x g h = count-set-time Identify s c q g h
+counts-timed Unknown s c q x g h = count-set-time Unknown s c q g h
+
+held-timed : (k : Kind) (s : Box) (c : Command) → Passed k s c → heldAfter k (timed s (c .now) .memory) c ≡ heldAfter k (s .memory) c
+unfolding tm
+held-timed Read s c q = held-set-time Read s c q
+held-timed Entry s c q = held-set-time Entry s c q
+held-timed Page s c q = held-set-time Page s c q
+held-timed (Change u) s c q = refl
+held-timed Sync s c q = refl
+held-timed Restart s c q = refl
+held-timed NewSalt s c q = refl
+held-timed Identify s c q = held-set-time Identify s c q
+held-timed Unknown s c q = held-set-time Unknown s c q
+
+pub accepted-after : (s : Box) (c : Command) → refusal s c ≡ 0 → After s c
+unfolding done timed
+accepted-after s c r =
+    let k = kindOf c in
+    let q = passed k s c (all-yes k s c refl r) in
+    let t = timed s (c .now) in
+    let qt = passed-timed k s c q in
+    let x = accepted-changes k s c refl r in
+    let reads = timed-reads k s c q in
+    let of-box : (g : ℕ) → g < groups (s .memory) → g < groups (t .memory) = λ g h. subst (λ (n : ℕ). g < n) (sym (reads .groups)) h in
+    let own : (u : Update) → k ≡ Change u → groupOf (c .block) < groups (s .memory) =
+    λ u e. subst (λ (n : ℕ). groupOf (c .block) < n) (reads .groups) (changed-group u t c (x u e)) in
+    let same = step-accepted k s c refl r in
+    let fields = effect-fields k t c qt x in
+    record {
+      time = ap (λ (o : Outcome). lastTime (o .box .memory)) same ∙ fields .time ∙ reads .time;
+      same-groups = ap (λ (o : Outcome). groups (o .box .memory)) same ∙ fields .same-groups ∙ reads .groups;
+      counts =
+          λ g h. ap (λ (o : Outcome). count (o .box .memory) g) same ∙ fields .counts g (of-box g h) ∙ counts-timed k s c q own g h;
+      held-group = ap (λ (o : Outcome). held (o .box .memory)) same ∙ fields .held-group ∙ held-timed k s c q;
+      page =
+          λ g h. ap (λ (o : Outcome). currentPage (o .box) g) same ∙ effect-page k t c qt x g (of-box g h) ∙ page-timed k s c q g;
+      content = λ a. ap (λ (o : Outcome). block (o .box .disk) (physical a)) same ∙ effect-content k t c qt x a;
+    }
+
+-- ---- of an update and of a restart
+
+module _ (u : Update) (s : Box) (c : Command) (e : kindOf c ≡ Change u) (r : refusal s c ≡ 0) where
+  own-group : groupOf (c .block) < groups (s .memory)
+  own-group = changed-group u s c (changes u s c (all-yes (Change u) s c e r))
+
+  pub own-page : currentPage (step s c .box) (groupOf (c .block)) ≡ changedPage u c
+  own-page =
+      let g = groupOf (c .block) in
+      accepted-after s c r .page g own-group
+      ∙ ap (λ (k : Kind). pageAfter k s c g) e
+      ∙ ap (λ (b : Bool). elim b [ true ↦ changedPage u c | false ↦ currentPage s g ]) (eq-eqb g g refl)
+
+  pub own-count : count (step s c .box .memory) (groupOf (c .block)) ≡ count (s .memory) (groupOf (c .block)) + 1
+  own-count =
+      let g = groupOf (c .block) in
+      accepted-after s c r .counts g own-group
+      ∙ ap (λ (k : Kind). countAfter k (s .memory) c g) e
+      ∙ count-changed (count (s .memory)) g (count (s .memory) g + 1)
+
+  pub own-held : held (step s c .box .memory) ≡ groupOf (c .block)
+  own-held = accepted-after s c r .held-group ∙ ap (λ (k : Kind). heldAfter k (s .memory) c) e
+
+  pub own-on-disk : (held (s .memory) ≡ none) ⊎ (held (s .memory) ≡ groupOf (c .block))
+      → block (step s c .box .disk) (pageBlock (groupOf (c .block))) ≡ block (s .disk) (pageBlock (groupOf (c .block)))
+  unfolding done effect timed
+  own-on-disk h =
+      let t = timed s (c .now) in
+      let q = passed (Change u) s c (all-yes (Change u) s c e r) in
+      ap (λ (o : Outcome). block (o .box .disk) (pageBlock (groupOf (c .block)))) (step-accepted (Change u) s c e r)
+      ∙ change-on-disk u t c (passed-timed (Change u) s c q) (accepted-changes (Change u) s c e r u refl)
+      (subst (λ (i : ℕ). (i ≡ none) ⊎ (i ≡ groupOf (c .block))) (sym (timed-reads (Change u) s c q .held)) h)
+
+pub lost-count : (s : Box) (c : Command) → kindOf c ≡ Restart → refusal s c ≡ 0 → held (s .memory) < groups (s .memory)
+    → count (step s c .box .memory) (held (s .memory)) ≡ count (s .memory) (held (s .memory)) + 1
+lost-count s c e r h =
+    let g = held (s .memory) in
+    accepted-after s c r .counts g h
+    ∙ ap (λ (k : Kind). countAfter k (s .memory) c g) e
+    ∙ count-changed (count (s .memory)) g (count (s .memory) g + 1)

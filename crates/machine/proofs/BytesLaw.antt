@@ -1,0 +1,227 @@
+-- An accepted command stores and answers bytes, and its answer fills the buffer. Assumes nothing.
+use mathlib.Core.Path.{_≡_, refl, ap, sym, subst, _∙_}
+use mathlib.Core.List.{List, [], _∷_, _++_, append-nil}
+use Prim.Native.Nat.{ℕ, _+_, _-_, _≤_}
+use native.Mathlib.Omega.{arith}
+use borrow.Author.Tests.{ltb-true}
+use lib.Dec.{lit<}
+use lib.ListN.{length, length-append}
+use Rattle.octets.specs.Part.{AreBytes, repeated}
+use Rattle.octets.specs.Number.{bytes}
+use Rattle.octets.proofs.BelowLaw.{below-none, below-cons, below-append}
+use Rattle.octets.proofs.NumberLaw.{bytes-length, bytes-are}
+use Rattle.octets.proofs.RepeatedLaw.{repeated-length, repeated-below}
+use Rattle.lockpage.specs.declared.Entry.{Entry as PageEntry}
+use Rattle.lockpage.specs.declared.Update.{Update}
+use Rattle.lockpage.specs.declared.Update.the-variants.{Write, Unfreeze, Increment}
+use Rattle.lockpage.specs.Entry.{entryBytes}
+use Rattle.lockpage.specs.State.{state, stateNumber, timeLeftBytes}
+use Rattle.lockpage.specs.Page.{entryAt}
+use Rattle.lockpage.proofs.EntryLaw.{entryBytes-length, entryBytes-are}
+use Rattle.lockpage.proofs.StateLaw.{timeLeftBytes-length, timeLeftBytes-are, stateNumber-byte}
+use Rattle.lockpage.proofs.PageLaw.{entry-room, withEntry-are}
+use Rattle.addressing.specs.Map.{dataBlocks, groupOf, placeOf, physical}
+use Rattle.addressing.proofs.MapLaw.{placeOf-below, physical-below}
+use Rattle.disk.proofs.DiskLaw.{block-length, block-are, block-room, withBlock-are}
+use Rattle.memory.specs.Memory.{count, groups, held, none, withCount, withNoCounts, holdingNone}
+use Rattle.memory.proofs.RangeLaw.{heldPage-bytes, withSalt-bytes, withCount-bytes, withNoCounts-bytes, withLastTime-bytes, holding-bytes, holdingNone-bytes}
+use Rattle.machine.specs.declared.Kind.{Kind}
+use Rattle.machine.specs.declared.Kind.the-variants.{Read, Entry, Page, Change, Sync, Restart, NewSalt, Identify, Unknown}
+use Rattle.machine.specs.Command.{Box, Command, Outcome, kindOf, proofSize, broughtPage, answerSize}
+use Rattle.machine.specs.Tag.{tagged, currentPage}
+use Rattle.machine.specs.Question.{refusal}
+use Rattle.machine.specs.Effect.{Store, Effect, stored, effect, read, showEntry, entryAnswer, showPage, putHeld, evict, putContent, changedPage, changedMemory, change, sync, restarted, restart, salted, newSalt, identifySize, identify}
+use Rattle.machine.specs.Step.{padded, step, timed, done}
+use Rattle.machine.specs.Claims.{ByteBox, ByteCommand, Stored}
+use Rattle.machine.proofs.CaseLaw.{same-or-not}
+use Rattle.machine.proofs.QuestionLaw.{all-yes}
+use Rattle.machine.proofs.StepLaw.{step-accepted}
+use Rattle.machine.proofs.TagLaw.{tagged-length, tagged-are, brought-length, brought-are, current-length, current-are}
+use Rattle.machine.proofs.PassedLaw.{Passed, Changes, passed, passed-timed, accepted-changes}
+use Rattle.machine.proofs.EffectLaw.{EachStore, each-append, each-keeps, each-put, each-evicted, changed-length, restarted-none, restarted-held}
+
+-- ---- the answer
+
+pub padded-length : (named : List ℕ) → length named ≤ answerSize → length (padded named) ≡ answerSize
+unfolding padded
+padded-length named l =
+    length-append named (repeated (answerSize - length named) 0) ∙ omega (arith, repeated-length (answerSize - length named) 0)
+
+-- what fills the buffer is not padded
+padded-full : (named : List ℕ) → length named ≡ answerSize → padded named ≡ named
+unfolding padded repeated
+padded-full named l =
+    let room : answerSize - length named ≡ 0 = omega arith in
+    ap (λ (n : ℕ). named ++ repeated n 0) room ∙ append-nil named
+
+padded-are : (named : List ℕ) → AreBytes named → AreBytes (padded named)
+unfolding padded
+padded-are named b =
+    below-append 256 named (repeated (answerSize - length named) 0) b (repeated-below 256 (answerSize - length named) 0 (lit< tt))
+
+entry-short : (now : ℕ) (e : PageEntry) → length (entryAnswer now e) ≤ answerSize
+unfolding entryAnswer
+entry-short now e =
+    let rest : List ℕ = timeLeftBytes now e ++ (stateNumber (state now e) ∷ []) in
+    omega (
+      arith,
+      length-append (entryBytes e) rest,
+      length-append (timeLeftBytes now e) (stateNumber (state now e) ∷ []),
+      entryBytes-length e,
+      timeLeftBytes-length now e,
+    )
+
+entry-are : (now : ℕ) (e : PageEntry) → AreBytes (entryAnswer now e)
+unfolding entryAnswer
+entry-are now e =
+    below-append 256 (entryBytes e) (timeLeftBytes now e ++ (stateNumber (state now e) ∷ [])) (entryBytes-are e)
+    (below-append 256 (timeLeftBytes now e) (stateNumber (state now e) ∷ []) (timeLeftBytes-are now e)
+    (below-cons 256 (stateNumber (state now e)) [] (stateNumber-byte (state now e)) (below-none 256 (lit< tt))))
+
+-- what is named is no longer than the buffer
+named-short : (k : Kind) (s : Box) (c : Command) → Passed k s c → ((u : Update) → k ≡ Change u → Changes u s c)
+    → length (effect k s c .named) ≤ answerSize
+unfolding effect read showEntry showPage change sync restart newSalt identify
+named-short Read s c q x =
+    let below = physical-below (groups (s .memory)) (c .block) (ltb-true (c .block) (dataBlocks (groups (s .memory))) (q .range)) in
+    omega (arith, block-length (s .disk) (physical (c .block)) (block-room (s .disk) (groups (s .memory)) (physical (c .block)) (q .disk) below))
+named-short Entry s c q x = entry-short (c .now) (entryAt (currentPage s (groupOf (c .block))) (placeOf (c .block)))
+named-short Page s c q x =
+    let long = current-length s (c .block) (q .memory .size) (q .disk) (ltb-true (c .block) (groups (s .memory)) (q .range)) in
+    omega (arith, tagged-length (s .memory) (c .block) (currentPage s (c .block)) long)
+named-short (Change u) s c q x =
+    let m = changedMemory (s .memory) (groupOf (c .block)) (changedPage u c) in
+    omega (arith, tagged-length m (groupOf (c .block)) (changedPage u c) (changed-length u c (x u refl .proof)))
+named-short Sync s c q x = omega arith
+named-short Restart s c q x = omega arith
+named-short NewSalt s c q x = omega arith
+named-short Identify s c q x =
+    let g = groups (s .memory) in
+    omega (arith, length-append (bytes identifySize g) (bytes identifySize (dataBlocks g)), bytes-length identifySize g, bytes-length identifySize (dataBlocks g))
+named-short Unknown s c q x = omega arith
+
+-- ---- bytes
+
+abbrev pub ByteStore : Store → Type 0
+ByteStore x = AreBytes (x .bytes)
+
+record ByteEffect (e : Effect) : Type 0 where
+  stores : EachStore ByteStore (e .stores)
+  memory : AreBytes (e .memory)
+  named : AreBytes (e .named)
+
+none-are : AreBytes []
+none-are = below-none 256 (lit< tt)
+
+put-bytes : (m : List ℕ) → AreBytes m → EachStore ByteStore (putHeld m)
+put-bytes m b = each-put ByteStore m (λ n. heldPage-bytes m b)
+
+content-bytes : (u : Update) (a : ℕ) (content : List ℕ) → AreBytes content → EachStore ByteStore (putContent u a content)
+unfolding putContent
+content-bytes (Write lock) a content b = (b, tt)
+content-bytes Unfreeze a content b = tt
+content-bytes (Increment value) a content b = tt
+
+changed-are : (u : Update) (c : Command) → length (c .proof) ≡ proofSize → AreBytes (c .proof) → AreBytes (changedPage u c)
+unfolding changedPage
+changed-are u c l b =
+    let p = broughtPage (c .proof) in
+    withEntry-are p (placeOf (c .block)) _ (entry-room p (placeOf (c .block)) (brought-length (c .proof) l) (placeOf-below (c .block)))
+    (brought-are (c .proof) b)
+
+restarted-are : (m : List ℕ) → AreBytes m → AreBytes (restarted m)
+restarted-are m b =
+    same-or-not (held m) none
+    (λ n. subst (λ (l : List ℕ). AreBytes l) (sym (restarted-none m n)) b)
+    (λ n.
+    subst (λ (l : List ℕ). AreBytes l) (sym (restarted-held m n))
+    (withCount-bytes (holdingNone m) (holdingNone-bytes m b) (held m) (count m (held m) + 1)))
+
+effect-bytes : (k : Kind) (s : Box) (c : Command) → ((u : Update) → k ≡ Change u → Changes u s c) → ByteBox s → ByteCommand c
+    → ByteEffect (effect k s c)
+unfolding effect read showEntry showPage change changedMemory sync restart salted newSalt identify
+effect-bytes Read s c x b d = record { stores = tt; memory = b .memory; named = block-are (s .disk) (physical (c .block)) (b .disk) }
+effect-bytes Entry s c x b d =
+    record { stores = tt; memory = b .memory; named = entry-are (c .now) (entryAt (currentPage s (groupOf (c .block))) (placeOf (c .block))) }
+effect-bytes Page s c x b d =
+    record {
+      stores = tt;
+      memory = b .memory;
+      named = tagged-are (s .memory) (c .block) (currentPage s (c .block)) (current-are s (c .block) (b .memory) (b .disk));
+    }
+effect-bytes (Change u) s c x b d =
+    let m = s .memory in
+    let g = groupOf (c .block) in
+    let page = changed-are u c (x u refl .proof) (d .proof) in
+    record {
+      stores =
+          each-append ByteStore (evict m g) (putContent u (c .block) (c .content)) (each-evicted ByteStore m g (put-bytes m (b .memory)))
+          (content-bytes u (c .block) (c .content) (d .content));
+      memory = holding-bytes (withCount m g (count m g + 1)) (withCount-bytes m (b .memory) g (count m g + 1)) g (changedPage u c) page;
+      named = tagged-are (changedMemory m g (changedPage u c)) g (changedPage u c) page;
+    }
+effect-bytes Sync s c x b d =
+    record { stores = put-bytes (s .memory) (b .memory); memory = holdingNone-bytes (s .memory) (b .memory); named = none-are }
+effect-bytes Restart s c x b d = record { stores = tt; memory = restarted-are (s .memory) (b .memory); named = none-are }
+effect-bytes NewSalt s c x b d =
+    let dropped = holdingNone-bytes (s .memory) (b .memory) in
+    let cleared = withNoCounts-bytes (holdingNone (s .memory)) dropped in
+    record {
+      stores = put-bytes (s .memory) (b .memory);
+      memory = withSalt-bytes (withNoCounts (holdingNone (s .memory))) cleared (c .content) (d .content);
+      named = none-are;
+    }
+effect-bytes Identify s c x b d =
+    let g = groups (s .memory) in
+    record {
+      stores = tt;
+      memory = b .memory;
+      named = below-append 256 (bytes identifySize g) (bytes identifySize (dataBlocks g)) (bytes-are identifySize g) (bytes-are identifySize (dataBlocks g));
+    }
+effect-bytes Unknown s c x b d = record { stores = tt; memory = b .memory; named = none-are }
+
+pub stored-are : (d : List ℕ) (xs : List Store) → EachStore ByteStore xs → AreBytes d → AreBytes (stored d xs)
+stored-are =
+    each-keeps (λ (d : List ℕ). AreBytes d) ByteStore (λ d x b a. withBlock-are d (x .place) (x .bytes) a b)
+
+-- ---- an accepted command
+
+pub answer-length : (s : Box) (c : Command) → refusal s c ≡ 0 → length (step s c .answer) ≡ answerSize
+unfolding done
+answer-length s c r =
+    let k = kindOf c in
+    let q = passed-timed k s c (passed k s c (all-yes k s c refl r)) in
+    ap (λ (o : Outcome). length (o .answer)) (step-accepted k s c refl r)
+    ∙ padded-length (effect k (timed s (c .now)) c .named) (named-short k (timed s (c .now)) c q (accepted-changes k s c refl r))
+
+-- an update answers the page that it holds, with the new tag
+pub changed-answer : (u : Update) (s : Box) (c : Command) → kindOf c ≡ Change u → refusal s c ≡ 0
+    → step s c .answer ≡ tagged (step s c .box .memory) (groupOf (c .block)) (changedPage u c)
+unfolding done effect change
+changed-answer u s c e r =
+    let t = timed s (c .now) in
+    let g = groupOf (c .block) in
+    let m = changedMemory (t .memory) g (changedPage u c) in
+    let same = step-accepted (Change u) s c e r in
+    ap (λ (o : Outcome). o .answer) same
+    ∙ padded-full (tagged m g (changedPage u c))
+    (tagged-length m g (changedPage u c) (changed-length u c (accepted-changes (Change u) s c e r u refl .proof)))
+    ∙ ap (λ (o : Outcome). tagged (o .box .memory) g (changedPage u c)) (sym same)
+
+pub accepted-bytes : (s : Box) (c : Command) → refusal s c ≡ 0 → ByteBox s → ByteCommand c → Stored s c
+unfolding done timed
+accepted-bytes s c r b d =
+    let k = kindOf c in
+    let t = timed s (c .now) in
+    let set = withLastTime-bytes (s .memory) (b .memory) (c .now) in
+    let e = effect-bytes k t c (accepted-changes k s c refl r) (record { memory = set; disk = b .disk }) d in
+    let same = step-accepted k s c refl r in
+    record {
+      box =
+          record {
+            memory = subst (λ (o : Outcome). AreBytes (o .box .memory)) (sym same) (e .memory);
+            disk =
+                subst (λ (o : Outcome). AreBytes (o .box .disk)) (sym same) (stored-are (s .disk) (effect k t c .stores) (e .stores) (b .disk));
+          };
+      answer = subst (λ (o : Outcome). AreBytes (o .answer)) (sym same) (padded-are (effect k t c .named) (e .named));
+    }

@@ -1,0 +1,96 @@
+-- The starred edge values: computed, but for the two locks, which are shown of every write. Assumes nothing.
+use mathlib.Core.Path.{_≡_, refl, ap, sym, subst, _∙_}
+use mathlib.Core.Bool.{Bool, true}
+use mathlib.Core.List.{[], _∷_}
+use Prim.Native.Nat.{ℕ}
+use lib.Dec.{leb}
+use Rattle.octets.specs.Number.{bytes}
+use Rattle.lockpage.specs.declared.Entry.{Entry}
+use Rattle.lockpage.specs.declared.State.{State}
+use Rattle.lockpage.specs.declared.Update.the-variants.{Write}
+use Rattle.lockpage.specs.Entry.{entryBytes, timeOfWrite, flag, isFrozen}
+use Rattle.lockpage.specs.State.{state, timeLeft, timeLeftBytes}
+use Rattle.lockpage.specs.Update.{longestLock, expiryAt, updated, allowed, withinLimit}
+use Rattle.lockpage.proofs.EntryLaw.{frozen-yes}
+use Rattle.lockpage.proofs.UpdateLaw.{within-lock, written-word, written-flag, allowed-write}
+use Rattle.addressing.specs.Map.{physical, pageBlock}
+use Rattle.machine.specs.declared.Kind.{Kind}
+use Rattle.machine.specs.declared.Kind.the-variants.{Change}
+use Rattle.machine.specs.Command.{Box, Command, broughtEntry}
+use Rattle.machine.specs.Question.{Put, NotPut, question10, questionsTo, questions, firstNo, refusal, AllYes}
+use Rattle.machine.specs.Step.{step}
+use Rattle.machine.specs.Claims.{Accepted}
+use Rattle.machine.specs.EdgeValues.{EdgeValues, locking}
+use Rattle.machine.proofs.KindLaw.{write-kind}
+use Rattle.machine.proofs.QuestionLaw.{passes-on, all-yes, toNinth}
+use Rattle.machine.proofs.StepLaw.{step-number, accepts}
+
+-- question 10 of a write looks at its lock
+lock-within : (lock now : ℕ) (e : Entry) → withinLimit (updated (Write lock) now e) ≡ leb lock longestLock
+lock-within lock now e =
+    sym (within-lock (updated (Write lock) now e) (frozen-yes (updated (Write lock) now e .stamp) (written-flag lock now e)))
+    ∙ ap (λ (w : ℕ). leb w longestLock) (written-word lock now e)
+
+-- question 9 of a write does not
+write-allowed : (a b : ℕ) (s : State) → allowed (Write a) s ≡ true → allowed (Write b) s ≡ true
+unfolding allowed
+write-allowed a b s h = subst (λ (t : State). allowed (Write b) t ≡ true) (sym (allowed-write a s h)) refl
+
+module _ (s : Box) (c : Command) (k : c .kind ≡ 4) (a : Accepted s (locking c 0)) where
+  -- the first nine have yes with any lock, if they have with lock 0
+  nine : (lock : ℕ) → AllYes (toNinth (Write lock) s (locking c lock))
+  nine lock =
+      let h = all-yes (Change (Write 0)) s (locking c 0) (write-kind (c .kind) 0 k) (accepts s (locking c 0) a) in (
+        h .0,
+        (
+          h .1 .0,
+          (
+            refl,
+            (
+              h .1 .1 .1 .0,
+              (
+                h .1 .1 .1 .1 .0,
+                (
+                  h .1 .1 .1 .1 .1 .0,
+                  (
+                    h .1 .1 .1 .1 .1 .1 .0,
+                    (h .1 .1 .1 .1 .1 .1 .1 .0, (write-allowed 0 lock (state (c .now) (broughtEntry c)) (h .1 .1 .1 .1 .1 .1 .1 .1 .0), tt)),
+                  ),
+                ),
+              ),
+            ),
+          ),
+        ),
+      )
+
+  -- then the tenth decides
+  tenth : (lock : ℕ) → step s (locking c lock) .number ≡ firstNo (Put 10 (leb lock longestLock) ∷ NotPut ∷ [])
+  unfolding refusal questions
+  tenth lock =
+      let d = locking c lock in
+      let u = Write lock in
+      step-number s d
+      ∙ ap (λ (i : Kind). firstNo (questionsTo i s d)) (write-kind (c .kind) lock k)
+      ∙ passes-on (toNinth u s d) (question10 (Change u) (c .now) (broughtEntry c) ∷ NotPut ∷ []) (nine lock)
+      ∙ ap (λ (b : Bool). firstNo (Put 10 b ∷ NotPut ∷ [])) (lock-within lock (c .now) (broughtEntry c))
+
+pub edge-values : EdgeValues
+unfolding physical pageBlock bytes entryBytes timeOfWrite flag isFrozen state timeLeft timeLeftBytes expiryAt updated firstNo
+edge-values =
+    record {
+      block-63 = refl;
+      block-64 = refl;
+      block-1023 = refl;
+      page-15 = refl;
+      written-bytes = refl;
+      unfrozen-bytes = refl;
+      grown-word = refl;
+      before-left = refl;
+      before-state = refl;
+      reached-left = refl;
+      reached-state = refl;
+      past-left = refl;
+      unlocked-state = refl;
+      longest-lock = λ s c k a. tenth s c k a 2147483647;
+      longer-lock = λ s c k a. tenth s c k a 2147483648;
+    }

@@ -1,0 +1,188 @@
+-- The commands of specs/Example.antt, one after the other. Assumes nothing.
+use mathlib.Core.Path.{_≡_, refl, ap, sym, _∙_}
+use mathlib.Mathlib.Data.Bool.Basic.{and-intro}
+use mathlib.Core.Logic.{inl}
+use mathlib.Core.List.{List, []}
+use Prim.Native.Nat.{ℕ}
+use native.Mathlib.Omega.{arith}
+use borrow.Author.Tests.{eq-eqb}
+use lib.Dec.{lit<, lit≤}
+use lib.ListN.{length}
+use Rattle.octets.specs.Part.{repeated}
+use Rattle.octets.proofs.RepeatedLaw.{repeated-length, repeated-below}
+use Rattle.octets.proofs.BelowLaw.{below-none}
+use Rattle.lockpage.specs.Size.{blockSize}
+use Rattle.lockpage.specs.declared.Update.the-variants.{Write, Unfreeze}
+use Rattle.lockpage.specs.Entry.{entry, timeOfWrite, flag, isFrozen}
+use Rattle.lockpage.specs.State.{state}
+use Rattle.lockpage.specs.Update.{expiryAt, updated, allowed, wordLimit, withinLimit}
+use Rattle.lockpage.specs.Page.{entryAt, blankEntry}
+use Rattle.addressing.specs.Map.{diskSize, dataBlocks, groupOf, placeOf}
+use Rattle.memory.specs.Layout.{memorySize, saltSize}
+use Rattle.memory.specs.Memory.{none}
+use Rattle.machine.specs.Command.{Box, boxOf, kindNumbered, answerSize}
+use Rattle.machine.specs.Tag.{currentPage}
+use Rattle.machine.specs.Question.{refusal}
+use Rattle.machine.specs.Format.{formatQuestions, format}
+use Rattle.machine.specs.Claims.{ByteBox, Formats}
+use Rattle.machine.specs.Example.{formattedBox, writing, written, syncing, start, unfreezing, unfrozen, restarting, restarted, unfreezingAgain, counting, overwriting, PremisesMet}
+use Rattle.machine.proofs.QuestionLaw.{yes-accepted, no-seventh}
+use Rattle.machine.proofs.StepLaw.{step-number}
+use Rattle.machine.proofs.TagLaw.{tagged-are, current-other, current-are}
+use Rattle.machine.proofs.BytesLaw.{accepted-bytes}
+use Rattle.machine.proofs.AfterLaw.{accepted-after}
+use Rattle.machine.proofs.FormatLaw.{formats}
+use Rattle.machine.proofs.ExampleLaw.{Known, served, updated-known, not-forged, sync-served, sync-known, restart-served, restart-known}
+
+-- ---- the formatted box
+
+-- what is formatted: zeros
+room : Box
+room = boxOf (repeated memorySize 0) (repeated (diskSize 1) 0)
+
+as-formatted : Formats room 1 (repeated saltSize 0)
+as-formatted = formats room 1 (repeated saltSize 0)
+
+format-passes : format room 1 (repeated saltSize 0) .number ≡ 0
+unfolding formatQuestions room
+format-passes =
+    as-formatted .number
+    ∙ yes-accepted (formatQuestions room 1 (repeated saltSize 0)) (
+      and-intro refl (and-intro refl (eq-eqb (length (repeated memorySize 0)) memorySize (repeated-length memorySize 0))),
+      (
+        eq-eqb (length (repeated (diskSize 1) 0)) (diskSize 1) (repeated-length (diskSize 1) 0),
+        (eq-eqb (length (repeated saltSize 0)) saltSize (repeated-length saltSize 0), tt),
+      ),
+    )
+
+known-formatted : Known 0 0 none blankEntry blankEntry formattedBox
+unfolding formattedBox room groupOf placeOf dataBlocks
+known-formatted =
+    let r = as-formatted .reads format-passes in
+    let page : entryAt (currentPage formattedBox 0) 0 ≡ blankEntry = as-formatted .blank format-passes 0 (lit< tt) in
+    record {
+      valid = as-formatted .valid format-passes;
+      one = r .groups;
+      last = r .time;
+      count-is = r .count 0 (lit< tt);
+      held-is = r .held;
+      current = page;
+      on-disk = ap (λ (p : List ℕ). entryAt p 0) (sym (current-other formattedBox 0 (λ e. omega (arith, r .held)))) ∙ page;
+    }
+
+-- ---- each command
+
+writing-served : refusal formattedBox writing ≡ 0
+unfolding kindNumbered timeOfWrite flag isFrozen state expiryAt updated allowed wordLimit withinLimit
+writing-served =
+    served 0 0 none blankEntry blankEntry formattedBox known-formatted (Write 500) 4 1000 500 (repeated blockSize 1) refl (lit≤ tt) (lit≤ tt)
+    (lit< tt) (repeated-length blockSize 1) refl refl
+
+known-written : Known 1000 1 0 (entry 500 2000) blankEntry written
+unfolding written kindNumbered updated
+known-written =
+    updated-known 0 0 none blankEntry blankEntry formattedBox known-formatted (Write 500) 4 1000 500 (repeated blockSize 1) refl
+    writing-served (inl refl) (record { word = lit< tt; stamp = lit< tt })
+
+syncing-served : refusal written syncing ≡ 0
+syncing-served = sync-served 1000 1 0 (entry 500 2000) blankEntry written known-written 1000 (lit≤ tt) (lit≤ tt)
+
+known-start : Known 1000 1 none (entry 500 2000) (entry 500 2000) start
+unfolding start
+known-start = sync-known 1000 1 0 (entry 500 2000) blankEntry written known-written 1000 syncing-served
+
+unfreezing-served : refusal start unfreezing ≡ 0
+unfolding kindNumbered timeOfWrite flag isFrozen state expiryAt updated allowed wordLimit withinLimit
+unfreezing-served =
+    served 1000 1 none (entry 500 2000) (entry 500 2000) start known-start Unfreeze 5 1200 0 [] refl (lit≤ tt) (lit≤ tt) (lit< tt) refl refl
+    refl
+
+known-unfrozen : Known 1200 2 0 (entry 1700 2001) (entry 500 2000) unfrozen
+unfolding unfrozen kindNumbered timeOfWrite expiryAt updated
+known-unfrozen =
+    updated-known 1000 1 none (entry 500 2000) (entry 500 2000) start known-start Unfreeze 5 1200 0 [] refl unfreezing-served (inl refl)
+    (record { word = lit< tt; stamp = lit< tt })
+
+restarting-served : refusal unfrozen restarting ≡ 0
+restarting-served =
+    restart-served 1200 2 0 (entry 1700 2001) (entry 500 2000) unfrozen known-unfrozen 1300 (lit≤ tt) (lit≤ tt)
+
+known-restarted : Known 1300 3 none (entry 500 2000) (entry 500 2000) restarted
+unfolding restarted
+known-restarted =
+    restart-known 1200 2 0 (entry 1700 2001) (entry 500 2000) unfrozen known-unfrozen 1300 restarting-served refl
+
+unfreezing-again-served : refusal restarted unfreezingAgain ≡ 0
+unfolding kindNumbered timeOfWrite flag isFrozen state expiryAt updated allowed wordLimit withinLimit
+unfreezing-again-served =
+    served 1300 3 none (entry 500 2000) (entry 500 2000) restarted known-restarted Unfreeze 5 1400 0 [] refl (lit≤ tt) (lit≤ tt) (lit< tt)
+    refl refl refl
+
+known-counting : Known 1400 4 0 (entry 1900 2001) (entry 500 2000) counting
+unfolding counting kindNumbered timeOfWrite expiryAt updated
+known-counting =
+    updated-known 1300 3 none (entry 500 2000) (entry 500 2000) restarted known-restarted Unfreeze 5 1400 0 [] refl unfreezing-again-served
+    (inl refl) (record { word = lit< tt; stamp = lit< tt })
+
+overwriting-served : refusal counting overwriting ≡ 0
+unfolding kindNumbered timeOfWrite flag isFrozen state expiryAt updated allowed wordLimit withinLimit
+overwriting-served =
+    served 1400 4 0 (entry 1900 2001) (entry 500 2000) counting known-counting (Write 0) 4 1900 0 (repeated blockSize 2) refl (lit≤ tt)
+    (lit≤ tt) (lit< tt) (repeated-length blockSize 2) refl refl
+
+-- ---- the premises
+
+formatted-bytes : ByteBox formattedBox
+unfolding formattedBox room
+formatted-bytes =
+    as-formatted .bytes
+    (record { memory = repeated-below 256 memorySize 0 (lit< tt); disk = repeated-below 256 (diskSize 1) 0 (lit< tt) })
+    (repeated-below 256 saltSize 0 (lit< tt))
+
+written-bytes : ByteBox written
+unfolding written
+written-bytes =
+    accepted-bytes formattedBox writing writing-served formatted-bytes
+    (record {
+      content = repeated-below 256 blockSize 1 (lit< tt);
+      proof =
+          tagged-are (formattedBox .memory) (groupOf 0) (currentPage formattedBox (groupOf 0))
+          (current-are formattedBox (groupOf 0) (formatted-bytes .memory) (formatted-bytes .disk));
+      answer = repeated-below 256 answerSize 0 (lit< tt);
+    })
+    .box
+
+start-bytes : ByteBox start
+unfolding start
+start-bytes =
+    accepted-bytes written syncing syncing-served written-bytes
+    (record { content = below-none 256 (lit< tt); proof = below-none 256 (lit< tt); answer = repeated-below 256 answerSize 0 (lit< tt) })
+    .box
+
+pub premises-met : PremisesMet
+unfolding unfrozen restarted counting groupOf placeOf kindNumbered
+premises-met =
+    record {
+      bytes = start-bytes .disk;
+      none-held = known-start .held-is;
+      unforged = (
+        not-forged 1000 1 none (entry 500 2000) (entry 500 2000) start known-start 5 1200 0 [],
+        (
+          (λ y. absurd (no-seventh unfrozen restarting refl y)),
+          (
+            not-forged 1300 3 none (entry 500 2000) (entry 500 2000) restarted known-restarted 5 1400 0 [],
+            (not-forged 1400 4 0 (entry 1900 2001) (entry 500 2000) counting known-counting 4 1900 0 (repeated blockSize 2), tt),
+          ),
+        ),
+      );
+      time = known-start .last;
+      frozen = known-start .on-disk;
+      accepted = (
+        step-number start unfreezing ∙ unfreezing-served,
+        (
+          step-number unfrozen restarting ∙ restarting-served,
+          (step-number restarted unfreezingAgain ∙ unfreezing-again-served, (step-number counting overwriting ∙ overwriting-served, tt)),
+        ),
+      );
+      overwritten = accepted-after counting overwriting overwriting-served .content 0;
+    }

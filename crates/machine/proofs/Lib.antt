@@ -1,0 +1,22 @@
+-- Laws that the theorems and the crates above cite, and the theorems.
+pub mod CaseLaw
+pub mod KindLaw
+pub mod QuestionLaw
+pub mod StepLaw
+pub mod TagLaw
+pub mod PassedLaw
+pub mod EffectLaw
+pub mod ValidBoxLaw
+pub mod BytesLaw
+pub mod ChangeLaw
+pub mod AfterLaw
+pub mod FormatLaw
+pub mod ShortcutLaw
+pub mod EdgeLaw
+pub mod ExampleLaw
+pub mod ExampleRun
+pub mod SafeLaw
+pub mod KeptLaw
+pub mod ShownLaw
+pub mod AlikeLaw
+pub mod Theorems

@@ -1,0 +1,186 @@
+-- Laws of the questions: the first no, and when there is none. Assumes nothing.
+use mathlib.Core.Path.{_≡_, refl, ap, sym, subst, _∙_}
+use mathlib.Core.Logic.{inl, inr, ⊎-elim}
+use mathlib.Core.Bool.{Bool, true, false, _&&_, _||_, false≢true}
+use mathlib.Mathlib.Data.Bool.Basic.{and-elim-left, and-elim-right, or-inl, or-inr}
+use mathlib.Core.List.{List, [], _∷_, _++_}
+use Prim.Native.Nat.{ℕ, _≤_}
+use native.Mathlib.Omega.{arith}
+use borrow.Author.Tests.{leb-true, eq-eqb}
+use lib.Dec.{eqb, leb}
+use Rattle.lockpage.specs.declared.Update.{Update}
+use Rattle.addressing.specs.Map.{groupOf}
+use Rattle.memory.specs.Memory.{groups}
+use Rattle.machine.specs.declared.Kind.{Kind}
+use Rattle.machine.specs.declared.Kind.the-variants.{Read, Entry, Page, Change, Sync, Restart, NewSalt, Identify, Unknown}
+use Rattle.machine.specs.Command.{Box, Command, kindOf, broughtEntry}
+use Rattle.machine.specs.Question.{Question, Put, NotPut, question1, question2, question3, question4, question5, question6, question7, question8, question9, question10, question11, questions, questionsTo, firstNo, refusal, AllYes, GetsYes}
+use Rattle.machine.specs.Claims.{IsFirstNo}
+
+-- ---- any list of questions
+
+-- whether each has a number from 1 to n
+unfoldable pub numberedTo : ℕ → List Question → Bool
+numberedTo n [] = true
+numberedTo n (NotPut ∷ qs) = numberedTo n qs
+numberedTo n (Put k answer ∷ qs) = leb 1 k && (leb k n && numberedTo n qs)
+
+pub yes-accepted : (qs : List Question) → AllYes qs → firstNo qs ≡ 0
+unfolding firstNo
+yes-accepted [] h = refl
+yes-accepted (NotPut ∷ qs) h = yes-accepted qs (h .1)
+yes-accepted (Put n true ∷ qs) h = yes-accepted qs (h .1)
+yes-accepted (Put n false ∷ qs) h = absurd (false≢true (h .0))
+
+pub accepted-yes : (n : ℕ) (qs : List Question) → numberedTo n qs ≡ true → firstNo qs ≡ 0 → AllYes qs
+unfolding firstNo numberedTo
+accepted-yes n [] h e = tt
+accepted-yes n (NotPut ∷ qs) h e = (tt, accepted-yes n qs h e)
+accepted-yes n (Put k true ∷ qs) h e = (refl, accepted-yes n qs (and-elim-right (leb k n) (numberedTo n qs) (and-elim-right (leb 1 k) (leb k n && numberedTo n qs) h)) e)
+accepted-yes n (Put k false ∷ qs) h e = absurd (omega (arith, leb-true 1 k (and-elim-left (leb 1 k) (leb k n && numberedTo n qs) h)))
+
+pub first-no : (qs : List Question) → (firstNo qs ≡ 0 → ⊥) → IsFirstNo (firstNo qs) qs
+unfolding firstNo
+first-no [] h = absurd (h refl)
+first-no (NotPut ∷ qs) h =
+    let rest = first-no qs h in
+    record { earlier = NotPut ∷ rest .earlier; later = rest .later; split = ap (λ (l : List Question). NotPut ∷ l) (rest .split); before = (tt, rest .before) }
+first-no (Put n true ∷ qs) h =
+    let rest = first-no qs h in
+    record { earlier = Put n true ∷ rest .earlier; later = rest .later; split = ap (λ (l : List Question). Put n true ∷ l) (rest .split); before = (refl, rest .before) }
+first-no (Put n false ∷ qs) h = record { earlier = []; later = qs; split = refl; before = tt }
+
+-- those that have yes leave it to the rest
+pub passes-on : (qs later : List Question) → AllYes qs → firstNo (qs ++ later) ≡ firstNo later
+unfolding firstNo
+passes-on [] later h = refl
+passes-on (NotPut ∷ qs) later h = passes-on qs later (h .1)
+passes-on (Put k true ∷ qs) later h = passes-on qs later (h .1)
+passes-on (Put k false ∷ qs) later h = absurd (false≢true (h .0))
+
+pub first-no-only : (n : ℕ) (qs : List Question) → IsFirstNo n qs → firstNo qs ≡ n
+unfolding firstNo
+first-no-only n qs f = ap firstNo (f .split) ∙ passes-on (f .earlier) (Put n false ∷ f .later) (f .before)
+
+yes-front : (qs later : List Question) → AllYes (qs ++ later) → AllYes qs
+yes-front [] later h = tt
+yes-front (q ∷ qs) later h = (h .0, yes-front qs later (h .1))
+
+-- where not all of the first questions have yes, one of them ends the command
+pub stops-within : (n : ℕ) (qs later : List Question) → numberedTo n qs ≡ true → (AllYes qs → ⊥)
+    → (1 ≤ firstNo (qs ++ later)) × (firstNo (qs ++ later) ≤ n)
+unfolding firstNo numberedTo
+stops-within n [] later h f = absurd (f tt)
+stops-within n (NotPut ∷ qs) later h f = stops-within n qs later h (λ y. f (tt, y))
+stops-within n (Put k true ∷ qs) later h f =
+    stops-within n qs later (and-elim-right (leb k n) (numberedTo n qs) (and-elim-right (leb 1 k) (leb k n && numberedTo n qs) h))
+    (λ y. f (refl, y))
+stops-within n (Put k false ∷ qs) later h f = (
+  leb-true 1 k (and-elim-left (leb 1 k) (leb k n && numberedTo n qs) h),
+  leb-true k n (and-elim-left (leb k n) (numberedTo n qs) (and-elim-right (leb 1 k) (leb k n && numberedTo n qs) h)),
+)
+
+-- whether a question of number n is put
+asks : ℕ → List Question → Bool
+asks n [] = false
+asks n (NotPut ∷ qs) = asks n qs
+asks n (Put k answer ∷ qs) = eqb k n || asks n qs
+
+-- only such a one is answered
+asked : (n : ℕ) (qs : List Question) → GetsYes n qs → asks n qs ≡ true
+unfolding asks
+asked n [] h = absurd h
+asked n (NotPut ∷ qs) h = asked n qs h
+asked n (Put k answer ∷ qs) h =
+    ⊎-elim (λ e. or-inl (eqb k n) (asks n qs) (eq-eqb k n e)) (λ rest. or-inr (eqb k n) (asks n qs) (asked n qs rest)) (h .1)
+
+-- ---- the eleven
+
+all-numbered : (k : Kind) (s : Box) (c : Command) → numberedTo 11 (questionsTo k s c) ≡ true
+unfolding numberedTo
+all-numbered Read s c = refl
+all-numbered Entry s c = refl
+all-numbered Page s c = refl
+all-numbered (Change u) s c = refl
+all-numbered Sync s c = refl
+all-numbered Restart s c = refl
+all-numbered NewSalt s c = refl
+all-numbered Identify s c = refl
+all-numbered Unknown s c = refl
+
+-- a command of kind k that no question refuses has yes to each
+pub all-yes : (k : Kind) (s : Box) (c : Command) → kindOf c ≡ k → refusal s c ≡ 0 → AllYes (questionsTo k s c)
+unfolding refusal questions
+all-yes k s c e r =
+    accepted-yes 11 (questionsTo k s c) (all-numbered k s c)
+    (ap (λ (x : Kind). firstNo (questionsTo x s c)) (sym e) ∙ r)
+
+-- ---- the first of them, put to an update
+
+abbrev pub toSeventh : Update → Box → Command → List Question
+toSeventh u s c =
+    question1 (s .memory)
+    ∷ question2 (s .memory) (s .disk)
+    ∷ question3 (Change u)
+    ∷ question4 (s .memory) (c .now)
+    ∷ question5 (Change u) (groups (s .memory)) (c .block)
+    ∷ question6 (Change u) (c .content) (c .proof) (c .answer)
+    ∷ question7 (Change u) (s .memory) (groupOf (c .block)) (c .proof)
+    ∷ []
+
+abbrev pub toNinth : Update → Box → Command → List Question
+toNinth u s c =
+    toSeventh u s c
+    ++ (question8 (Change u) (s .memory) (groupOf (c .block)) ∷ question9 (Change u) (c .now) (broughtEntry c) ∷ [])
+
+afterNinth : Update → Box → Command → List Question
+afterNinth u s c = question10 (Change u) (c .now) (broughtEntry c) ∷ question11 (Change u) (s .memory) (c .content) ∷ []
+
+afterSeventh : Update → Box → Command → List Question
+afterSeventh u s c =
+    question8 (Change u) (s .memory) (groupOf (c .block)) ∷ question9 (Change u) (c .now) (broughtEntry c) ∷ afterNinth u s c
+
+-- an update that not all of them let pass is refused by then
+pub refused-by-seventh : (u : Update) (s : Box) (c : Command) → kindOf c ≡ Change u → (AllYes (toSeventh u s c) → ⊥)
+    → (1 ≤ refusal s c) × (refusal s c ≤ 7)
+unfolding refusal questions numberedTo afterSeventh afterNinth
+refused-by-seventh u s c e f =
+    subst (λ (k : Kind). (1 ≤ firstNo (questionsTo k s c)) × (firstNo (questionsTo k s c) ≤ 7)) (sym e)
+    (stops-within 7 (toSeventh u s c) (afterSeventh u s c) refl f)
+
+pub refused-by-ninth : (u : Update) (s : Box) (c : Command) → kindOf c ≡ Change u → (AllYes (toNinth u s c) → ⊥)
+    → (1 ≤ refusal s c) × (refusal s c ≤ 9)
+unfolding refusal questions numberedTo afterNinth
+refused-by-ninth u s c e f =
+    subst (λ (k : Kind). (1 ≤ firstNo (questionsTo k s c)) × (firstNo (questionsTo k s c) ≤ 9)) (sym e)
+    (stops-within 9 (toNinth u s c) (afterNinth u s c) refl f)
+
+-- one that they all let pass got yes to question 7
+pub got-seventh : (u : Update) (s : Box) (c : Command) → kindOf c ≡ Change u → AllYes (toSeventh u s c) → GetsYes 7 (questions s c)
+unfolding questions
+got-seventh u s c e h =
+    subst (λ (k : Kind). GetsYes 7 (questionsTo k s c)) (sym e) (
+      h .0,
+      inr (
+        h .1 .0,
+        inr (
+          h .1 .1 .0,
+          inr
+              (h .1 .1 .1 .0, inr (h .1 .1 .1 .1 .0, inr (h .1 .1 .1 .1 .1 .0, inr (h .1 .1 .1 .1 .1 .1 .0, inl refl)))),
+        ),
+      ),
+    )
+
+pub all-seven : (u : Update) (s : Box) (c : Command) → AllYes (questionsTo (Change u) s c) → AllYes (toSeventh u s c)
+unfolding afterSeventh afterNinth
+all-seven u s c h = yes-front (toSeventh u s c) (afterSeventh u s c) h
+
+pub nine-seven : (u : Update) (s : Box) (c : Command) → AllYes (toNinth u s c) → AllYes (toSeventh u s c)
+nine-seven u s c h =
+    yes-front (toSeventh u s c) (question8 (Change u) (s .memory) (groupOf (c .block)) ∷ question9 (Change u) (c .now) (broughtEntry c) ∷ []) h
+
+-- question 7 is not put to a restart
+pub no-seventh : (s : Box) (c : Command) → kindOf c ≡ Restart → GetsYes 7 (questions s c) → ⊥
+unfolding questions asks
+no-seventh s c e h =
+    false≢true (asked 7 (questionsTo Restart s c) (subst (λ (k : Kind). GetsYes 7 (questionsTo k s c)) e h))

@@ -1,0 +1,256 @@
+-- The five shortcuts are not taken. Assumes nothing.
+use mathlib.Core.Path.{_≡_, refl, ap, sym, subst, _∙_}
+use mathlib.Core.Logic.{⊎-elim}
+use mathlib.Core.List.{List, [], _∷_}
+use Prim.Native.Nat.{ℕ, _+_, _^_, _≤_, _<_}
+use native.Mathlib.Omega.{arith}
+use lib.ListN.{length}
+use Rattle.octets.proofs.EqualLaw.{equal-true}
+use Rattle.lockpage.specs.declared.State.the-variants.{Free}
+use Rattle.lockpage.specs.declared.Update.{Update}
+use Rattle.lockpage.specs.declared.Update.the-variants.{Write, Unfreeze}
+use Rattle.lockpage.specs.Entry.{flag, frozen, unfrozen}
+use Rattle.lockpage.specs.declared.Entry.{Entry as PageEntry}
+use Rattle.lockpage.specs.State.{state}
+use Rattle.lockpage.specs.Update.{updated}
+use Rattle.lockpage.specs.Page.{entryAt}
+use Rattle.lockpage.proofs.StateLaw.{Says, says}
+use Rattle.lockpage.proofs.UpdateLaw.{updated-fits, unfrozen-flag, allowed-write, allowed-unfreeze}
+use Rattle.lockpage.proofs.PageLaw.{entry-room, entryAt-fits, entryAt-same}
+use Rattle.addressing.specs.Map.{groupOf, placeOf, physical}
+use Rattle.addressing.proofs.MapLaw.{placeOf-below, physical-page}
+use Rattle.memory.specs.Layout.{memorySize, countSize}
+use Rattle.memory.specs.Memory.{count, groups, held}
+use Rattle.memory.specs.Claims.{changed}
+use Rattle.validity.specs.Valid.{countLimit}
+use Rattle.validity.proofs.ValidLaw.{Valid, facts}
+use Rattle.machine.specs.declared.Kind.{Kind}
+use Rattle.machine.specs.declared.Kind.the-variants.{Read, Entry, Page, Change, Sync, Restart, NewSalt, Identify, Unknown}
+use Rattle.machine.specs.Command.{Box, Command, kindOf, broughtPage, broughtTag, broughtEntry}
+use Rattle.machine.specs.Tag.{tag, currentPage}
+use Rattle.machine.specs.Question.{questionsTo, refusal, AllYes}
+use Rattle.machine.specs.Effect.{changedPage}
+use Rattle.machine.specs.Step.{step}
+use Rattle.machine.specs.Run.{Event, Given, after, run, Throughout}
+use Rattle.machine.specs.Claims.{ValidBox}
+use Rattle.machine.specs.After.{countAfter}
+use Rattle.machine.specs.Shortcuts.{RefusedBy, SaltStays, TagsDiffer, NotFreeBeforeExpiry, OldPageRefused, LostPageRefused, OnNoPage, SecondUnfreezeRefused}
+use Rattle.machine.proofs.KindLaw.{new-salt-number, write-kind, unfreeze-kind, restart-kind}
+use Rattle.machine.proofs.QuestionLaw.{all-yes, refused-by-seventh, refused-by-ninth, got-seventh, nine-seven}
+use Rattle.machine.proofs.StepLaw.{step-number, accepts, accepted-or-same}
+use Rattle.machine.proofs.TagLaw.{tagged-page, tagged-tag, brought-length, brought-are, message-same}
+use Rattle.machine.proofs.PassedLaw.{passed, changes, changed-group, matched}
+use Rattle.machine.proofs.EffectLaw.{changed-length, count-changed, count-unchanged}
+use Rattle.machine.proofs.BytesLaw.{changed-answer}
+use Rattle.machine.proofs.CaseLaw.{same-or-not}
+use Rattle.machine.proofs.ValidBoxLaw.{accepted-valid}
+use Rattle.machine.proofs.AfterLaw.{accepted-after, own-page, own-count, own-held, lost-count}
+
+-- a refusal is answered as a number
+refused-by : (n : ℕ) (s : Box) (c : Command) → (1 ≤ refusal s c) × (refusal s c ≤ n) → RefusedBy n s c
+refused-by n s c h = (omega (arith, h .0, step-number s c), omega (arith, h .1, step-number s c))
+
+-- ---- f = 1 before the expiry
+
+pub not-free-before-expiry : NotFreeBeforeExpiry
+unfolding NotFreeBeforeExpiry
+not-free-before-expiry s c k f l =
+    let u = Write (c .value) in
+    refused-by 9 s c
+    (refused-by-ninth u s c (write-kind (c .kind) (c .value) k)
+    (λ h.
+    let free = allowed-write (c .value) (state (c .now) (broughtEntry c)) (h .1 .1 .1 .1 .1 .1 .1 .1 .0) in
+    let found : Says (c .now) (broughtEntry c) Free = subst (Says (c .now) (broughtEntry c)) free (says (c .now) (broughtEntry c)) in
+    omega (arith, found .1)))
+
+-- ---- a second unfreeze
+
+pub second-unfreeze-refused : SecondUnfreezeRefused
+unfolding SecondUnfreezeRefused changedPage
+second-unfreeze-refused s c d kc kd same bytes a u =
+    let ec = unfreeze-kind (c .kind) (c .value) kc in
+    let ed = unfreeze-kind (d .kind) (d .value) kd in
+    let t = step s c .box in
+    let yes-all = all-yes (Change Unfreeze) s c ec (accepts s c a) in
+    let q = passed (Change Unfreeze) s c yes-all in
+    let x = changes Unfreeze s c yes-all in
+    let e = broughtEntry c in
+    let fits = updated-fits Unfreeze (c .now) e (q .early) (entryAt-fits (broughtPage (c .proof)) (placeOf (c .block)) (brought-are (c .proof) bytes)) (x .within) in
+    let room = entry-room (broughtPage (c .proof)) (placeOf (c .block)) (brought-length (c .proof) (x .proof)) (placeOf-below (c .block)) in
+    let stored : entryAt (changedPage Unfreeze c) (placeOf (c .block)) ≡ updated Unfreeze (c .now) e =
+    entryAt-same (broughtPage (c .proof)) (placeOf (c .block)) (updated Unfreeze (c .now) e) room fits in
+    refused-by 9 t d
+    (refused-by-ninth Unfreeze t d ed
+    (λ h.
+    let brings : broughtPage (d .proof) ≡ changedPage Unfreeze c =
+    u (got-seventh Unfreeze t d ed (nine-seven Unfreeze t d h))
+    ∙ ap (currentPage t) (ap groupOf same)
+    ∙ own-page Unfreeze s c ec (accepts s c a) in
+    let found : broughtEntry d ≡ updated Unfreeze (c .now) e =
+    ap (λ (p : List ℕ). entryAt p (placeOf (d .block))) brings ∙ ap (λ (b : ℕ). entryAt (changedPage Unfreeze c) (placeOf b)) same ∙ stored in
+    let is-frozen = allowed-unfreeze (state (d .now) (broughtEntry d)) (h .1 .1 .1 .1 .1 .1 .1 .1 .0) in
+    let still : flag (broughtEntry d .stamp) ≡ frozen = subst (Says (d .now) (broughtEntry d)) is-frozen (says (d .now) (broughtEntry d)) in
+    let now : flag (broughtEntry d .stamp) ≡ unfrozen = ap (λ (i : PageEntry). flag (i .stamp)) found ∙ unfrozen-flag (c .now) e in
+    omega arith))
+
+-- ---- an old tag
+
+-- a page with the tag of a memory with another count of its group is refused
+stale : (m : List ℕ) (g : ℕ) (t : Box) (d : Command) (v : Update) → kindOf d ≡ Change v → groupOf (d .block) ≡ g
+    → broughtTag (d .proof) ≡ tag m g (broughtPage (d .proof)) → length m ≡ memorySize → length (t .memory) ≡ memorySize
+    → count m g < 256 ^ countSize → count (t .memory) g < 256 ^ countSize → (count m g ≡ count (t .memory) g → ⊥)
+    → TagsDiffer m (t .memory) g (broughtPage (d .proof)) → RefusedBy 7 t d
+unfolding tag
+stale m g t d v e same old lm lt sm st other differ =
+    refused-by 7 t d
+    (refused-by-seventh v t d e
+    (λ h.
+    let p = broughtPage (d .proof) in
+    let fresh : broughtTag (d .proof) ≡ tag (t .memory) g p =
+    equal-true (broughtTag (d .proof)) _ (h .1 .1 .1 .1 .1 .1 .0) ∙ ap (λ (i : ℕ). tag (t .memory) i p) same in
+    other (message-same m (t .memory) g p p lm lt sm st (differ (sym old ∙ fresh)))))
+
+-- ---- counts without a new salt
+
+-- group g of the box has more than n updates and restarts counted, in 4 bytes
+record Counted (g n : ℕ) (t : Box) : Type 0 where
+  valid : ValidBox t
+  of-box : g < groups (t .memory)
+  more : n < count (t .memory) g
+  small : count (t .memory) g < 256 ^ countSize
+
+-- a count raised by 1 or left
+raised : (f : ℕ → ℕ) (a g : ℕ) → (a ≡ g → f a ≤ countLimit) → f g < 256 ^ countSize
+    → (f g ≤ changed f a (f a + 1) g) × (changed f a (f a + 1) g < 256 ^ countSize)
+raised f a g h small =
+    same-or-not a g
+    (λ e.
+    let same = ap f e in
+    let up = ap (changed f a (f a + 1)) (sym e) ∙ count-changed f a (f a + 1) in
+    (omega arith, omega (arith, h e)))
+    (λ e.
+    let left = count-unchanged f a (f a + 1) g (λ x. e (sym x)) in
+    (omega arith, omega arith))
+
+-- without a new salt no count falls
+count-rises : (k : Kind) (m : List ℕ) (c : Command) (g : ℕ) → (k ≡ NewSalt → ⊥) → Valid m → g < groups m
+    → ((u : Update) → k ≡ Change u → count m (groupOf (c .block)) < countLimit) → count m g < 256 ^ countSize
+    → (count m g ≤ countAfter k m c g) × (countAfter k m c g < 256 ^ countSize)
+count-rises Read m c g n v h x small = (omega arith, small)
+count-rises Entry m c g n v h x small = (omega arith, small)
+count-rises Page m c g n v h x small = (omega arith, small)
+count-rises (Change u) m c g n v h x small =
+    let unspent = x u refl in
+    raised (count m) (groupOf (c .block)) g (λ e. omega arith) small
+count-rises Sync m c g n v h x small = (omega arith, small)
+count-rises Restart m c g n v h x small =
+    raised (count m) (held m) g (λ e. v .unspent (λ none-held. omega (arith, v .most))) small
+count-rises NewSalt m c g n v h x small = absurd (n refl)
+count-rises Identify m c g n v h x small = (omega arith, small)
+count-rises Unknown m c g n v h x small = (omega arith, small)
+
+counted-after : (g n : ℕ) (t : Box) (c : Command) → SaltStays t (Given c) → Counted g n t → refusal t c ≡ 0 → Counted g n (step t c .box)
+counted-after g n t c stays h r =
+    let k = kindOf c in
+    let a = accepted-after t c r in
+    let rises =
+    count-rises k (t .memory) c g (λ e. stays (step-number t c ∙ r) (new-salt-number (c .kind) (c .value) e))
+    (facts (t .memory) (h .valid .memory)) (h .of-box) (λ u e. changes u t c (all-yes (Change u) t c e r) .unspent) (h .small) in
+    let same = a .counts g (h .of-box) in
+    record {
+      valid = accepted-valid t c r;
+      of-box = subst (λ (i : ℕ). g < i) (sym (a .same-groups)) (h .of-box);
+      more = omega (arith, rises .0, h .more);
+      small = subst (λ (i : ℕ). i < 256 ^ countSize) (sym same) (rises .1);
+    }
+
+counted-run : (g n : ℕ) (t : Box) (es : List Event) → Throughout SaltStays t es → Counted g n t → Counted g n (run t es)
+counted-run g n t [] stays h = h
+counted-run g n t (Given c ∷ es) stays h =
+    counted-run g n (after t (Given c)) es (stays .1)
+    (⊎-elim (λ r. counted-after g n t c (stays .0) h r) (λ e. subst (Counted g n) (sym e) h) (accepted-or-same t c))
+
+-- ---- the old page and the lost page
+
+-- after an accepted update its group is counted
+module _ (u : Update) (s : Box) (c : Command) (e : kindOf c ≡ Change u) (r : refusal s c ≡ 0) where
+  updated-yes : AllYes (questionsTo (Change u) s c)
+  updated-yes = all-yes (Change u) s c e r
+
+  unspent-before : count (s .memory) (groupOf (c .block)) < countLimit
+  unspent-before = changes u s c updated-yes .unspent
+
+  counted-update : Counted (groupOf (c .block)) (count (s .memory) (groupOf (c .block))) (step s c .box)
+  counted-update =
+      let up = own-count u s c e r in
+      record {
+        valid = accepted-valid s c r;
+        of-box =
+            subst (λ (n : ℕ). groupOf (c .block) < n) (sym (accepted-after s c r .same-groups)) (changed-group u s c (changes u s c updated-yes));
+        more = omega arith;
+        small = omega (arith, unspent-before);
+      }
+
+  -- what it answers is a page with its tag
+  answered-tag : broughtTag (step s c .answer) ≡ tag (step s c .box .memory) (groupOf (c .block)) (broughtPage (step s c .answer))
+  answered-tag =
+      let m = step s c .box .memory in
+      let g = groupOf (c .block) in
+      let p = changedPage u c in
+      let size = changed-length u c (changes u s c updated-yes .proof) in
+      subst (λ (l : List ℕ). broughtTag l ≡ tag m g (broughtPage l)) (sym (changed-answer u s c e r))
+      (tagged-tag m g p size ∙ ap (tag m g) (sym (tagged-page m g p size)))
+
+-- a restart after it counts once more
+counted-restart : (u : Update) (s : Box) (c r : Command) → kindOf c ≡ Change u → kindOf r ≡ Restart → refusal s c ≡ 0
+    → refusal (step s c .box) r ≡ 0
+    → Counted (groupOf (c .block)) (count (step s c .box .memory) (groupOf (c .block))) (step (step s c .box) r .box)
+counted-restart u s c r ec er rc rr =
+    let g = groupOf (c .block) in
+    let t = step s c .box in
+    let h = counted-update u s c ec rc in
+    let is-held = own-held u s c ec rc in
+    let of-box : held (t .memory) < groups (t .memory) = subst (λ (i : ℕ). i < groups (t .memory)) (sym is-held) (h .of-box) in
+    let up : count (step t r .box .memory) g ≡ count (t .memory) g + 1 =
+    subst (λ (i : ℕ). count (step t r .box .memory) i ≡ count (t .memory) i + 1) is-held (lost-count t r er rr of-box) in
+    record {
+      valid = accepted-valid t r rr;
+      of-box = subst (λ (n : ℕ). g < n) (sym (accepted-after t r rr .same-groups)) (h .of-box);
+      more = omega arith;
+      small = omega (arith, unspent-before u s c ec rc, own-count u s c ec rc);
+    }
+
+-- a memory's size, from the valid box
+box-size : (t : Box) → ValidBox t → length (t .memory) ≡ memorySize
+box-size t v = facts (t .memory) (v .memory) .size
+
+pub old-page-refused : OldPageRefused
+unfolding OldPageRefused
+old-page-refused s c es d u v ec ed a stays same proof differ =
+    let r = accepts s c a in
+    let g = groupOf (c .block) in
+    let h = counted-run g (count (s .memory) g) (step s c .box) es stays (counted-update u s c ec r) in
+    let unspent = unspent-before u s c ec r in
+    stale (s .memory) g (run (step s c .box) es) d v ed same
+    (subst (λ (p : List ℕ). broughtTag p ≡ tag (s .memory) g (broughtPage p)) (sym proof) (matched u s c (updated-yes u s c ec r)))
+    (passed (Change u) s c (updated-yes u s c ec r) .memory .size) (box-size (run (step s c .box) es) (h .valid))
+    (omega arith) (h .small) (λ e. omega (arith, h .more))
+    (subst (λ (p : List ℕ). TagsDiffer (s .memory) (run (step s c .box) es .memory) g (broughtPage p)) (sym proof) differ)
+
+pub lost-page-refused : LostPageRefused
+unfolding LostPageRefused
+lost-page-refused s c r es d u v ec kr ed a b stays same proof differ =
+    let g = groupOf (c .block) in
+    let t = step s c .box in
+    let ra = accepts s c a in
+    let er = restart-kind (r .kind) (r .value) kr in
+    let before = counted-update u s c ec ra in
+    let h = counted-run g (count (t .memory) g) (step t r .box) es stays (counted-restart u s c r ec er ra (accepts t r b)) in
+    stale (t .memory) g (run (step t r .box) es) d v ed same
+    (subst (λ (p : List ℕ). broughtTag p ≡ tag (t .memory) g (broughtPage p)) (sym proof) (answered-tag u s c ec ra))
+    (box-size t (before .valid)) (box-size (run (step t r .box) es) (h .valid)) (before .small) (h .small) (λ e. omega (arith, h .more))
+    (subst (λ (p : List ℕ). TagsDiffer (t .memory) (run (step t r .box) es .memory) g (broughtPage p)) (sym proof) differ)
+
+pub on-no-page : OnNoPage
+unfolding physical
+on-no-page = record { not-at-64 = λ e. omega arith; on-no-page = physical-page }

@@ -1,0 +1,45 @@
+-- Laws of a step: it is the effect where no question refuses it, and changes nothing where one does. Assumes nothing.
+use mathlib.Core.Path.{_≡_, refl, ap, sym, _∙_}
+use mathlib.Core.Logic.{_⊎_, inl, inr}
+use borrow.Author.Tests.{eq-eqb, ne-eqb}
+use Rattle.machine.specs.declared.Kind.{Kind}
+use Rattle.machine.specs.Command.{Box, Command, Outcome, kindOf}
+use Rattle.machine.specs.Question.{refusal}
+use Rattle.machine.specs.Effect.{effect}
+use Rattle.machine.specs.Step.{timed, done, refused, step}
+use Rattle.machine.proofs.CaseLaw.{same-or-not}
+use Rattle.machine.specs.Claims.{Accepted, Unaltered}
+
+pub step-accepted : (k : Kind) (s : Box) (c : Command) → kindOf c ≡ k → refusal s c ≡ 0
+    → step s c ≡ done (s .disk) (effect k (timed s (c .now)) c)
+unfolding step
+step-accepted k s c e r =
+    rw (step, eq-eqb (refusal s c) 0 r) (ap (λ (x : Kind). done (s .disk) (effect x (timed s (c .now)) c)) e)
+
+step-refused : (s : Box) (c : Command) → (refusal s c ≡ 0 → ⊥) → step s c ≡ refused (refusal s c) s c
+unfolding step
+step-refused s c r = rw (step, ne-eqb (refusal s c) 0 r)
+
+-- the number answered is that of the first no
+pub step-number : (s : Box) (c : Command) → step s c .number ≡ refusal s c
+unfolding done refused
+step-number s c =
+    same-or-not (refusal s c) 0
+    (λ r. ap (λ (o : Outcome). o .number) (step-accepted (kindOf c) s c refl r) ∙ sym r)
+    (λ n. ap (λ (o : Outcome). o .number) (step-refused s c n))
+
+-- so an accepted command is one that no question refuses
+pub accepts : (s : Box) (c : Command) → Accepted s c → refusal s c ≡ 0
+accepts s c a = sym (step-number s c) ∙ a
+
+pub refused-unaltered : (s : Box) (c : Command) → (refusal s c ≡ 0 → ⊥) → Unaltered s c
+unfolding refused
+refused-unaltered s c r =
+    record {
+      box = ap (λ (o : Outcome). o .box) (step-refused s c r);
+      answer = ap (λ (o : Outcome). o .answer) (step-refused s c r);
+    }
+
+-- a command is accepted, or leaves the box as it was
+pub accepted-or-same : (s : Box) (c : Command) → (refusal s c ≡ 0) ⊎ (step s c .box ≡ s)
+accepted-or-same s c = same-or-not (refusal s c) 0 (λ r. inl r) (λ n. inr (refused-unaltered s c n .box))

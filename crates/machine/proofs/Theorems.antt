@@ -1,0 +1,150 @@
+-- The claims of specs/ hold. Assumes nothing.
+use mathlib.Core.Path.{_≡_, refl, ap, sym, subst, _∙_}
+use mathlib.Core.List.{List}
+use Prim.Native.Nat.{ℕ}
+use native.Mathlib.Omega.{arith}
+use lib.ListN.{length}
+use Rattle.octets.specs.Part.{AreBytes}
+use Rattle.addressing.specs.Map.{diskSize}
+use Rattle.validity.proofs.ValidLaw.{facts}
+use Rattle.machine.specs.Command.{Box, Command, kindOf}
+use Rattle.machine.specs.Question.{refusal, questions}
+use Rattle.machine.specs.Step.{step}
+use Rattle.machine.specs.Claims.{PapersSizes, IsFirstNo, PassesIfAllYes, KindsAreOneToTen, NumberIsFirstNo, RefusalAltersNothing, AcceptedLeavesValid, StaysValid, ByteBox, StepKeepsBytes, SameLengths, StepKeepsLengths, FormattingFormats}
+use Rattle.machine.specs.After.{AcceptedDoes, HeldPageFirst}
+use Rattle.machine.specs.Protection.{Demand3, ReadsAlike}
+use Rattle.machine.specs.Shortcuts.{Shortcuts}
+use Rattle.machine.specs.EdgeValues.{EdgeValues}
+use Rattle.machine.specs.Example.{PremisesMet}
+use Rattle.machine.proofs.CaseLaw.{same-or-not}
+use Rattle.machine.proofs.KindLaw.{one-to-ten}
+use Rattle.machine.proofs.QuestionLaw.{yes-accepted, all-yes, first-no, first-no-only}
+use Rattle.machine.proofs.StepLaw.{step-number, accepts, refused-unaltered}
+use Rattle.machine.proofs.TagLaw.{message-length}
+use Rattle.machine.proofs.PassedLaw.{passed}
+use Rattle.machine.proofs.EffectLaw.{held-first}
+use Rattle.machine.proofs.ValidBoxLaw.{accepted-valid, run-valid}
+use Rattle.machine.proofs.BytesLaw.{answer-length, accepted-bytes}
+use Rattle.machine.proofs.AfterLaw.{accepted-after}
+use Rattle.machine.proofs.FormatLaw as format
+use Rattle.machine.proofs.ShortcutLaw as shortcut
+use Rattle.machine.proofs.EdgeLaw as edge
+use Rattle.machine.proofs.ExampleRun as example
+use Rattle.machine.proofs.AlikeLaw.{start-shown, read-in}
+
+-- ---- specs/Claims.antt
+
+pub papers-sizes : PapersSizes
+papers-sizes =
+    record { tag = refl; proof = refl; answer = refl; message = λ m g page l n. message-length m g page l ∙ omega arith }
+
+pub passes-if-all-yes : PassesIfAllYes
+unfolding PassesIfAllYes refusal questions
+passes-if-all-yes s c =
+    record {
+      passes = λ h. step-number s c ∙ yes-accepted (questions s c) h;
+      only = λ a. all-yes (kindOf c) s c refl (accepts s c a);
+    }
+
+pub kinds-are-one-to-ten : KindsAreOneToTen
+unfolding KindsAreOneToTen
+kinds-are-one-to-ten = one-to-ten
+
+pub number-is-first-no : NumberIsFirstNo
+unfolding NumberIsFirstNo refusal
+number-is-first-no s c =
+    record {
+      first =
+          λ n.
+          subst (λ (k : ℕ). IsFirstNo k (questions s c)) (sym (step-number s c))
+          (first-no (questions s c) (λ e. n (step-number s c ∙ e)));
+      only = λ n f. step-number s c ∙ first-no-only n (questions s c) f;
+    }
+
+pub refusal-alters-nothing : RefusalAltersNothing
+unfolding RefusalAltersNothing
+refusal-alters-nothing s c n = refused-unaltered s c (λ e. n (step-number s c ∙ e))
+
+pub accepted-leaves-valid : AcceptedLeavesValid
+unfolding AcceptedLeavesValid
+accepted-leaves-valid s c a = accepted-valid s c (accepts s c a)
+
+pub stays-valid : StaysValid
+unfolding StaysValid
+stays-valid = run-valid
+
+pub step-keeps-bytes : StepKeepsBytes
+unfolding StepKeepsBytes
+step-keeps-bytes s c b d =
+    same-or-not (refusal s c) 0 (λ r. accepted-bytes s c r b d)
+    (λ n.
+    let same = refused-unaltered s c n in
+    record { box = subst ByteBox (sym (same .box)) b; answer = subst (λ (l : List ℕ). AreBytes l) (sym (same .answer)) (d .answer) })
+
+-- the lengths that the questions ask for are those after
+accepted-lengths : (s : Box) (c : Command) → refusal s c ≡ 0 → SameLengths s c
+accepted-lengths s c r =
+    let q = passed (kindOf c) s c (all-yes (kindOf c) s c refl r) in
+    let v = accepted-valid s c r in
+    record {
+      memory = facts (step s c .box .memory) (v .memory) .size ∙ sym (q .memory .size);
+      disk = v .disk ∙ ap diskSize (accepted-after s c r .same-groups) ∙ sym (q .disk);
+      answer = answer-length s c r ∙ sym (q .answer);
+    }
+
+pub step-keeps-lengths : StepKeepsLengths
+unfolding StepKeepsLengths
+step-keeps-lengths s c =
+    same-or-not (refusal s c) 0 (accepted-lengths s c)
+    (λ n.
+    let same = refused-unaltered s c n in
+    record {
+      memory = ap (λ (t : Box). length (t .memory)) (same .box);
+      disk = ap (λ (t : Box). length (t .disk)) (same .box);
+      answer = ap (λ (l : List ℕ). length l) (same .answer);
+    })
+
+pub formatting-formats : FormattingFormats
+unfolding FormattingFormats
+formatting-formats = format.formats
+
+-- ---- specs/After.antt
+
+pub accepted-does : AcceptedDoes
+unfolding AcceptedDoes
+accepted-does s c a = accepted-after s c (accepts s c a)
+
+pub held-page-first : HeldPageFirst
+unfolding HeldPageFirst
+held-page-first = held-first
+
+-- ---- specs/Shortcuts.antt and specs/EdgeValues.antt
+
+pub shortcuts : Shortcuts
+shortcuts =
+    record {
+      not-free-before-expiry = shortcut.not-free-before-expiry;
+      old-page-refused = shortcut.old-page-refused;
+      lost-page-refused = shortcut.lost-page-refused;
+      on-no-page = shortcut.on-no-page;
+      second-unfreeze-refused = shortcut.second-unfreeze-refused;
+    }
+
+pub edge-values : EdgeValues
+edge-values = edge.edge-values
+
+-- ---- specs/Protection.antt
+
+pub demand-3 : Demand3
+unfolding Demand3
+demand-3 s b xs ys bytes n u v =
+    (start-shown s b xs ys bytes n xs u (λ x y. x), start-shown s b xs ys bytes n ys v (λ x y. y))
+
+pub premises-met : PremisesMet
+premises-met = example.premises-met
+
+pub reads-alike : ReadsAlike
+unfolding ReadsAlike Demand3
+reads-alike s b xs ys bytes n u v c d x y p q =
+    let both = demand-3 s b xs ys bytes n u v in
+    read-in s b xs ys xs (both .0) c x p ∙ sym (read-in s b xs ys ys (both .1) d y q)

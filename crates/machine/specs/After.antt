@@ -1,0 +1,86 @@
+-- What an accepted command does to the box, field by field: the last time, the counts, the held group, each group's current page and each
+-- block's content. Each claim is a type; its proof has the claim's name in proofs/Theorems.antt.
+use Prim.Native.Nat.{ℕ, _+_, _<_}
+use mathlib.Core.Path.{_≡_}
+use mathlib.Core.Bool.{true, false}
+use mathlib.Core.List.{List, [], _∷_}
+use lib.Dec.{eqb}
+use Rattle.lockpage.specs.declared.Update.the-variants.{Write, Unfreeze, Increment}
+use Rattle.addressing.specs.Map.{groupOf, physical, pageBlock}
+use Rattle.disk.specs.Disk.{block}
+use Rattle.memory.specs.Memory.{count, lastTime, groups, held, none, heldPage}
+use Rattle.memory.specs.Claims.{changed}
+use Rattle.machine.specs.declared.Kind.{Kind}
+use Rattle.machine.specs.declared.Kind.the-variants.{Read, Entry, Page, Change, Sync, Restart, NewSalt, Identify, Unknown}
+use Rattle.machine.specs.Command.{Box, Command, kindOf}
+use Rattle.machine.specs.Tag.{currentPage}
+use Rattle.machine.specs.Effect.{store, change, changedPage}
+use Rattle.machine.specs.Step.{step}
+use Rattle.machine.specs.Claims.{Accepted}
+
+-- the count of group g: an update raises its group's by 1, a restart the held one's, a new salt makes all 0
+abbrev pub countAfter : Kind → List ℕ → Command → ℕ → ℕ
+countAfter Read m c g = count m g
+countAfter Entry m c g = count m g
+countAfter Page m c g = count m g
+countAfter (Change u) m c g = changed (count m) (groupOf (c .block)) (count m (groupOf (c .block)) + 1) g
+countAfter Sync m c g = count m g
+countAfter Restart m c g = changed (count m) (held m) (count m (held m) + 1) g
+countAfter NewSalt m c g = 0
+countAfter Identify m c g = count m g
+countAfter Unknown m c g = count m g
+
+-- the held group
+abbrev pub heldAfter : Kind → List ℕ → Command → ℕ
+heldAfter Read m c = held m
+heldAfter Entry m c = held m
+heldAfter Page m c = held m
+heldAfter (Change u) m c = groupOf (c .block)
+heldAfter Sync m c = none
+heldAfter Restart m c = none
+heldAfter NewSalt m c = none
+heldAfter Identify m c = held m
+heldAfter Unknown m c = held m
+
+-- the current page of group g: an update's own group has the changed page, and a restart falls back to the disk's
+abbrev pub pageAfter : Kind → Box → Command → ℕ → List ℕ
+pageAfter Read s c g = currentPage s g
+pageAfter Entry s c g = currentPage s g
+pageAfter Page s c g = currentPage s g
+pageAfter (Change u) s c g = elim (eqb (groupOf (c .block)) g) [ true ↦ changedPage u c | false ↦ currentPage s g ]
+pageAfter Sync s c g = currentPage s g
+pageAfter Restart s c g = block (s .disk) (pageBlock g)
+pageAfter NewSalt s c g = currentPage s g
+pageAfter Identify s c g = currentPage s g
+pageAfter Unknown s c g = currentPage s g
+
+-- the content of data block a: only a write changes its own
+abbrev pub contentAfter : Kind → List ℕ → Command → ℕ → List ℕ
+contentAfter Read disk c a = block disk (physical a)
+contentAfter Entry disk c a = block disk (physical a)
+contentAfter Page disk c a = block disk (physical a)
+contentAfter (Change (Write lock)) disk c a = elim (eqb (c .block) a) [ true ↦ c .content | false ↦ block disk (physical a) ]
+contentAfter (Change Unfreeze) disk c a = block disk (physical a)
+contentAfter (Change (Increment value)) disk c a = block disk (physical a)
+contentAfter Sync disk c a = block disk (physical a)
+contentAfter Restart disk c a = block disk (physical a)
+contentAfter NewSalt disk c a = block disk (physical a)
+contentAfter Identify disk c a = block disk (physical a)
+contentAfter Unknown disk c a = block disk (physical a)
+
+pub record After (s : Box) (c : Command) : Type 0 where
+  pub time : lastTime (step s c .box .memory) ≡ c .now
+  pub same-groups : groups (step s c .box .memory) ≡ groups (s .memory)
+  pub counts : (g : ℕ) → g < groups (s .memory) → count (step s c .box .memory) g ≡ countAfter (kindOf c) (s .memory) c g
+  pub held-group : held (step s c .box .memory) ≡ heldAfter (kindOf c) (s .memory) c
+  pub page : (g : ℕ) → g < groups (s .memory) → currentPage (step s c .box) g ≡ pageAfter (kindOf c) s c g
+  pub content : (a : ℕ) → block (step s c .box .disk) (physical a) ≡ contentAfter (kindOf c) (s .disk) c a
+
+unfoldable pub AcceptedDoes : Type 0
+AcceptedDoes = (s : Box) (c : Command) → Accepted s c → After s c
+
+-- document 02, Q-9, on the order of the stores: "the held page (in kinds 4 to 6 only another group's), the data"
+unfoldable pub HeldPageFirst : Type 0
+HeldPageFirst = (s : Box) (c : Command) (lock : ℕ) → (held (s .memory) ≡ none → ⊥) → (held (s .memory) ≡ groupOf (c .block) → ⊥)
+    → change (Write lock) s c .stores
+    ≡ store (pageBlock (held (s .memory))) (heldPage (s .memory)) ∷ store (physical (c .block)) (c .content) ∷ []

@@ -1,0 +1,131 @@
+-- What a reader wants to know of the controller, beside demand 3. Each claim is a type; its proof has the claim's name in
+-- proofs/Theorems.antt. That a step comes to an answer for every box and command needs no claim: step is a function.
+use Prim.Native.Nat.{ℕ, _≤_, _<_}
+use mathlib.Core.Path.{_≡_}
+use mathlib.Core.Bool.{true, false}
+use mathlib.Core.List.{List, _∷_, _++_}
+use lib.ListN.{length}
+use Rattle.octets.specs.Part.{AreBytes, repeated}
+use Rattle.lockpage.specs.Size.{pageSize}
+use Rattle.lockpage.specs.Page.{blankEntry, entryAt}
+use Rattle.addressing.specs.Map.{diskSize, dataBlocks, groupOf, placeOf, physical}
+use Rattle.disk.specs.Disk.{block}
+use Rattle.memory.specs.Layout.{memorySize}
+use Rattle.memory.specs.Memory.{groups, none}
+use Rattle.memory.specs.Claims.{Reads}
+use Rattle.validity.specs.Valid.{valid}
+use Rattle.machine.specs.Command.{Box, Command, kindOf, tagSize, proofSize, answerSize}
+use Rattle.machine.specs.Tag.{tagMessage, currentPage}
+use Rattle.machine.specs.Question.{Question, Put, question3, questions, firstNo, HasYes, AllYes}
+use Rattle.machine.specs.Step.{step}
+use Rattle.machine.specs.Format.{formatQuestions, format}
+use Rattle.machine.specs.Run.{Event, run}
+
+abbrev pub Accepted : Box → Command → Type 0
+Accepted s c = step s c .number ≡ 0
+
+-- ---- document 01's sizes
+
+-- "proof (page 512, tag 32) and a 544-byte answer buffer"; "salt, group in 8 bytes, count in 4 bytes, page: 556 bytes"
+pub record PapersSizes : Type 0 where
+  pub tag : tagSize ≡ 32
+  pub proof : proofSize ≡ 544
+  pub answer : answerSize ≡ 544
+  pub message : (m : List ℕ) (g : ℕ) (page : List ℕ) → length m ≡ memorySize → length page ≡ pageSize
+      → length (tagMessage m g page) ≡ 556
+
+-- ---- demand 2: "A command passes if and only if each question put to it there has yes."
+
+pub record Passes (s : Box) (c : Command) : Type 0 where
+  pub passes : AllYes (questions s c) → Accepted s c
+  pub only : Accepted s c → AllYes (questions s c)
+
+unfoldable pub PassesIfAllYes : Type 0
+PassesIfAllYes = (s : Box) (c : Command) → Passes s c
+
+-- "Is the kind 1 to 10?": question 3 has yes for these numbers and no other
+pub record OneToTen (c : Command) : Type 0 where
+  pub known : 1 ≤ c .kind → c .kind ≤ 10 → HasYes (question3 (kindOf c))
+  pub only : HasYes (question3 (kindOf c)) → (1 ≤ c .kind) × (c .kind ≤ 10)
+
+unfoldable pub KindsAreOneToTen : Type 0
+KindsAreOneToTen = (c : Command) → OneToTen c
+
+-- "A no ends the command with that number": n is that of the first question in order which has no
+pub record IsFirstNo (n : ℕ) (qs : List Question) : Type 0 where
+  pub earlier : List Question
+  pub later : List Question
+  pub split : qs ≡ earlier ++ (Put n false ∷ later)
+  pub before : AllYes earlier
+
+pub record Numbered (s : Box) (c : Command) : Type 0 where
+  pub first : (Accepted s c → ⊥) → IsFirstNo (step s c .number) (questions s c)
+  pub only : (n : ℕ) → IsFirstNo n (questions s c) → step s c .number ≡ n
+
+unfoldable pub NumberIsFirstNo : Type 0
+NumberIsFirstNo = (s : Box) (c : Command) → Numbered s c
+
+-- ---- demand 1: "a refusal alters no byte of memory, disk or answer"
+
+pub record Unaltered (s : Box) (c : Command) : Type 0 where
+  pub box : step s c .box ≡ s
+  pub answer : step s c .answer ≡ c .answer
+
+unfoldable pub RefusalAltersNothing : Type 0
+RefusalAltersNothing = (s : Box) (c : Command) → (Accepted s c → ⊥) → Unaltered s c
+
+-- ---- a box once valid stays valid: questions 1 and 2 have yes
+
+pub record ValidBox (s : Box) : Type 0 where
+  pub memory : valid (s .memory) ≡ true
+  pub disk : length (s .disk) ≡ diskSize (groups (s .memory))
+
+unfoldable pub AcceptedLeavesValid : Type 0
+AcceptedLeavesValid = (s : Box) (c : Command) → Accepted s c → ValidBox (step s c .box)
+
+unfoldable pub StaysValid : Type 0
+StaysValid = (s : Box) (es : List Event) → ValidBox s → ValidBox (run s es)
+
+-- ---- bytes stay bytes, and a buffer keeps its length
+
+pub record ByteBox (s : Box) : Type 0 where
+  pub memory : AreBytes (s .memory)
+  pub disk : AreBytes (s .disk)
+
+pub record ByteCommand (c : Command) : Type 0 where
+  pub content : AreBytes (c .content)
+  pub proof : AreBytes (c .proof)
+  pub answer : AreBytes (c .answer)
+
+pub record Stored (s : Box) (c : Command) : Type 0 where
+  pub box : ByteBox (step s c .box)
+  pub answer : AreBytes (step s c .answer)
+
+unfoldable pub StepKeepsBytes : Type 0
+StepKeepsBytes = (s : Box) (c : Command) → ByteBox s → ByteCommand c → Stored s c
+
+pub record SameLengths (s : Box) (c : Command) : Type 0 where
+  pub memory : length (step s c .box .memory) ≡ length (s .memory)
+  pub disk : length (step s c .box .disk) ≡ length (s .disk)
+  pub answer : length (step s c .answer) ≡ length (c .answer)
+
+unfoldable pub StepKeepsLengths : Type 0
+StepKeepsLengths = (s : Box) (c : Command) → SameLengths s c
+
+-- ---- formatting
+
+pub record Formats (s : Box) (g : ℕ) (salt : List ℕ) : Type 0 where
+  -- its number is that of the first no, and a refusal alters nothing
+  pub number : format s g salt .number ≡ firstNo (formatQuestions s g salt)
+  pub refused : (format s g salt .number ≡ 0 → ⊥) → format s g salt .box ≡ s
+  -- it gives a valid box with the salt and G, counts and last time 0 and none held; each block has the blank entry, with which it is
+  -- free; and it "touches no data block"
+  pub valid : format s g salt .number ≡ 0 → ValidBox (format s g salt .box)
+  pub reads : format s g salt .number ≡ 0 → Reads (format s g salt .box .memory) salt (λ k. 0) 0 g none (repeated pageSize 0)
+  pub blank : format s g salt .number ≡ 0 → (a : ℕ) → a < dataBlocks g
+      → entryAt (currentPage (format s g salt .box) (groupOf a)) (placeOf a) ≡ blankEntry
+  pub untouched : (a : ℕ) → block (format s g salt .box .disk) (physical a) ≡ block (s .disk) (physical a)
+  pub bytes : ByteBox s → AreBytes salt → ByteBox (format s g salt .box)
+
+unfoldable pub FormattingFormats : Type 0
+FormattingFormats = (s : Box) (g : ℕ) (salt : List ℕ) → Formats s g salt

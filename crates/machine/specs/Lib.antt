@@ -1,0 +1,14 @@
+-- The controller as definitions, in document 01's order, and the claims about them.
+pub mod Command
+pub mod Tag
+pub mod Question
+pub mod Effect
+pub mod Step
+pub mod Format
+pub mod Run
+pub mod Claims
+pub mod After
+pub mod Protection
+pub mod Shortcuts
+pub mod EdgeValues
+pub mod Example
