@@ -1,18 +1,14 @@
 -- What an accepted command does to the box, kind by kind, as specs/After.antt claims. Assumes nothing.
-use mathlib.Core.Path.{_≡_, refl, ap, ap₂, sym, subst, _∙_}
+use mathlib.Core.Path.{_≡_, refl, ap, sym, subst, _∙_}
 use mathlib.Core.Logic.{_⊎_}
 use mathlib.Core.List.{List}
 use Prim.Native.Nat.{ℕ, _+_, _<_}
-use native.Mathlib.Omega.{arith}
 use mathlib.Core.Bool.{Bool, true, false}
-use lib.Dec.{eqb}
 use borrow.Author.Tests.{eq-eqb}
 use Rattle.lockpage.specs.declared.Update.{Update}
 use Rattle.addressing.specs.Map.{groupOf, physical, pageBlock}
 use Rattle.disk.specs.Disk.{block}
-use Rattle.memory.specs.Layout.{mostGroups}
-use Rattle.memory.specs.Memory.{count, lastTime, groups, held, none}
-use Rattle.memory.specs.Claims.{changed}
+use Rattle.memory.specs.Memory.{salt, count, lastTime, groups, held, none}
 use Rattle.memory.proofs.FieldLaw.{page-dropped}
 use Rattle.validity.proofs.ValidLaw.{Valid}
 use Rattle.machine.specs.declared.Kind.{Kind}
@@ -22,27 +18,25 @@ use Rattle.machine.specs.Tag.{currentPage}
 use Rattle.machine.specs.Question.{refusal}
 use Rattle.machine.specs.Effect.{stored, effect, read, showEntry, showPage, putHeld, changedPage, change, sync, restarted, restart, newSalt, identify}
 use Rattle.machine.specs.Step.{step, timed, done}
-use Rattle.machine.specs.After.{countAfter, heldAfter, pageAfter, contentAfter, After}
+use Rattle.machine.specs.After.{saltAfter, countAfter, heldAfter, pageAfter, contentAfter, After}
 use Rattle.machine.proofs.CaseLaw.{same-or-not}
 use Rattle.machine.proofs.QuestionLaw.{all-yes}
 use Rattle.machine.proofs.StepLaw.{step-accepted}
-use Rattle.machine.proofs.TagLaw.{current-other, current-same}
+use Rattle.machine.proofs.TagLaw.{current-other}
 use Rattle.machine.proofs.PassedLaw.{Passed, Changes, passed, changes, passed-timed, changed-group, accepted-changes, timed-reads}
-use Rattle.machine.proofs.EffectLaw.{left, count-changed, untouched, count-unchanged, restarted-none, restarted-held-reads, restarted-time, restarted-groups, restarted-drops, salted-reads}
+use Rattle.machine.proofs.EffectLaw.{left, count-changed, untouched, count-unchanged, restarted-none, restarted-held-reads, restarted-salt, restarted-time, restarted-groups, restarted-drops, salted-reads}
+use Rattle.machine.proofs.TimedLaw.{in-memory, salt-timed, counts-timed, held-timed, page-timed}
 use Rattle.machine.proofs.ChangeLaw.{change-on-disk, not-none, put-current, put-elsewhere, change-reads, change-page, change-content}
 
 -- ---- by kind
 
--- the last time and the number of groups stay (the last time is set before), the counts and the held group are as claimed
+-- the last time and the number of groups stay (the last time is set before), the salt, the counts and the held group are as claimed
 record Fields (k : Kind) (s : Box) (c : Command) (m : List ℕ) : Type 0 where
   time : lastTime m ≡ lastTime (s .memory)
   same-groups : groups m ≡ groups (s .memory)
+  new-salt : salt m ≡ saltAfter k (s .memory) c
   counts : (g : ℕ) → g < groups (s .memory) → count m g ≡ countAfter k (s .memory) c g
   held-group : held m ≡ heldAfter k (s .memory) c
-
--- a field's law reaches as far as the box has groups
-in-memory : (m : List ℕ) → Valid m → (g : ℕ) → g < groups m → g < mostGroups
-in-memory m v g h = omega (arith, v .most)
 
 restart-fields : (s : Box) (c : Command) → Valid (s .memory) → Fields Restart s c (restarted (s .memory))
 restart-fields s c v =
@@ -50,6 +44,7 @@ restart-fields s c v =
     record {
       time = restarted-time m v;
       same-groups = restarted-groups m v;
+      new-salt = restarted-salt m v;
       counts =
           λ g h.
           same-or-not (held m) none
@@ -63,14 +58,15 @@ restart-fields s c v =
 effect-fields : (k : Kind) (s : Box) (c : Command) → Passed k s c → ((u : Update) → k ≡ Change u → Changes u s c)
     → Fields k s c (effect k s c .memory)
 unfolding effect read showEntry showPage change sync restart newSalt identify
-effect-fields Read s c q x = record { time = refl; same-groups = refl; counts = λ g h. refl; held-group = refl }
-effect-fields Entry s c q x = record { time = refl; same-groups = refl; counts = λ g h. refl; held-group = refl }
-effect-fields Page s c q x = record { time = refl; same-groups = refl; counts = λ g h. refl; held-group = refl }
+effect-fields Read s c q x = record { time = refl; same-groups = refl; new-salt = refl; counts = λ g h. refl; held-group = refl }
+effect-fields Entry s c q x = record { time = refl; same-groups = refl; new-salt = refl; counts = λ g h. refl; held-group = refl }
+effect-fields Page s c q x = record { time = refl; same-groups = refl; new-salt = refl; counts = λ g h. refl; held-group = refl }
 effect-fields (Change u) s c q x =
     let r = change-reads u s c q (x u refl) in
     record {
       time = r .time;
       same-groups = r .groups;
+      new-salt = r .salt;
       counts = λ g h. r .count g (in-memory (s .memory) (q .memory) g h);
       held-group = r .held;
     }
@@ -79,6 +75,7 @@ effect-fields Sync s c q x =
     record {
       time = r .time;
       same-groups = r .groups;
+      new-salt = r .salt;
       counts = λ g h. r .count g (in-memory (s .memory) (q .memory) g h);
       held-group = r .held;
     }
@@ -88,11 +85,12 @@ effect-fields NewSalt s c q x =
     record {
       time = r .time;
       same-groups = r .groups;
+      new-salt = r .salt;
       counts = λ g h. r .count g (in-memory (s .memory) (q .memory) g h);
       held-group = r .held;
     }
-effect-fields Identify s c q x = record { time = refl; same-groups = refl; counts = λ g h. refl; held-group = refl }
-effect-fields Unknown s c q x = record { time = refl; same-groups = refl; counts = λ g h. refl; held-group = refl }
+effect-fields Identify s c q x = record { time = refl; same-groups = refl; new-salt = refl; counts = λ g h. refl; held-group = refl }
+effect-fields Unknown s c q x = record { time = refl; same-groups = refl; new-salt = refl; counts = λ g h. refl; held-group = refl }
 
 -- with none held after, the page is the one on the disk
 none-after : (s t : Box) (g : ℕ) → Valid (s .memory) → g < groups (s .memory) → held (t .memory) ≡ none
@@ -134,81 +132,6 @@ effect-content Unknown s c q x a = refl
 
 -- ---- an accepted command
 
--- what is said of the box with the last time set is said of the box that the command gets
-current-timed : (k : Kind) (s : Box) (c : Command) → Passed k s c → (g : ℕ) → currentPage (timed s (c .now)) g ≡ currentPage s g
-unfolding timed
-current-timed k s c q g =
-    let r = timed-reads k s c q in
-    current-same s (timed s (c .now)) g (r .held) (r .page) refl
-
-page-timed : (k : Kind) (s : Box) (c : Command) → Passed k s c → (g : ℕ) → pageAfter k (timed s (c .now)) c g ≡ pageAfter k s c g
-unfolding timed
-page-timed Read s c q g = current-timed Read s c q g
-page-timed Entry s c q g = current-timed Entry s c q g
-page-timed Page s c q g = current-timed Page s c q g
-page-timed (Change u) s c q g =
-    ap (λ (p : List ℕ). elim (eqb (groupOf (c .block)) g) [ true ↦ changedPage u c | false ↦ p ]) (current-timed (Change u) s c q g)
-page-timed Sync s c q g = current-timed Sync s c q g
-page-timed Restart s c q g = refl
-page-timed NewSalt s c q g = current-timed NewSalt s c q g
-page-timed Identify s c q g = current-timed Identify s c q g
-page-timed Unknown s c q g = current-timed Unknown s c q g
-
--- a count raised by 1, or not, where two memories have the same counts
-raised-same : (c d : ℕ → ℕ) (a g : ℕ) → c a ≡ d a → c g ≡ d g → changed c a (c a + 1) g ≡ changed d a (d a + 1) g
-raised-same c d a g x y = ap₂ (λ (i j : ℕ). elim (eqb g a) [ true ↦ i + 1 | false ↦ j ]) x y
-
-module _ (k : Kind) (s : Box) (c : Command) (q : Passed k s c) where
-  tm : List ℕ
-  tm = timed s (c .now) .memory
-
-  count-set-time : (g : ℕ) → g < groups (s .memory) → count tm g ≡ count (s .memory) g
-  unfolding tm
-  count-set-time g h = timed-reads k s c q .count g (in-memory (s .memory) (q .memory) g h)
-
-  held-set-time : held tm ≡ held (s .memory)
-  unfolding tm
-  held-set-time = timed-reads k s c q .held
-
-  restart-set-time : (g : ℕ) → g < groups (s .memory) → countAfter Restart tm c g ≡ countAfter Restart (s .memory) c g
-  restart-set-time g h =
-      let m = s .memory in
-      ap (λ (i : ℕ). changed (count tm) i (count tm i + 1) g) held-set-time
-      ∙ same-or-not (held m) none
-      (λ n.
-      let other : g ≡ held m → ⊥ = λ e. not-none m (q .memory) g (held m) n h (sym e) in
-      count-unchanged (count tm) (held m) (count tm (held m) + 1) g other
-      ∙ count-set-time g h
-      ∙ sym (count-unchanged (count m) (held m) (count m (held m) + 1) g other))
-      (λ n. raised-same (count tm) (count m) (held m) g (count-set-time (held m) (q .memory .group n)) (count-set-time g h))
-
-counts-timed : (k : Kind) (s : Box) (c : Command) → Passed k s c → ((u : Update) → k ≡ Change u → groupOf (c .block) < groups (s .memory))
-    → (g : ℕ) → g < groups (s .memory) → countAfter k (timed s (c .now) .memory) c g ≡ countAfter k (s .memory) c g
-unfolding tm
-counts-timed Read s c q x g h = count-set-time Read s c q g h
-counts-timed Entry s c q x g h = count-set-time Entry s c q g h
-counts-timed Page s c q x g h = count-set-time Page s c q g h
-counts-timed (Change u) s c q x g h =
-    raised-same (count (timed s (c .now) .memory)) (count (s .memory)) (groupOf (c .block)) g
-    (count-set-time (Change u) s c q (groupOf (c .block)) (x u refl)) (count-set-time (Change u) s c q g h)
-counts-timed Sync s c q x g h = count-set-time Sync s c q g h
-counts-timed Restart s c q x g h = restart-set-time Restart s c q g h
-counts-timed NewSalt s c q x g h = refl
-counts-timed Identify s c q x g h = count-set-time Identify s c q g h
-counts-timed Unknown s c q x g h = count-set-time Unknown s c q g h
-
-held-timed : (k : Kind) (s : Box) (c : Command) → Passed k s c → heldAfter k (timed s (c .now) .memory) c ≡ heldAfter k (s .memory) c
-unfolding tm
-held-timed Read s c q = held-set-time Read s c q
-held-timed Entry s c q = held-set-time Entry s c q
-held-timed Page s c q = held-set-time Page s c q
-held-timed (Change u) s c q = refl
-held-timed Sync s c q = refl
-held-timed Restart s c q = refl
-held-timed NewSalt s c q = refl
-held-timed Identify s c q = held-set-time Identify s c q
-held-timed Unknown s c q = held-set-time Unknown s c q
-
 pub accepted-after : (s : Box) (c : Command) → refusal s c ≡ 0 → After s c
 unfolding done timed
 accepted-after s c r =
@@ -226,6 +149,7 @@ accepted-after s c r =
     record {
       time = ap (λ (o : Outcome). lastTime (o .box .memory)) same ∙ fields .time ∙ reads .time;
       same-groups = ap (λ (o : Outcome). groups (o .box .memory)) same ∙ fields .same-groups ∙ reads .groups;
+      new-salt = ap (λ (o : Outcome). salt (o .box .memory)) same ∙ fields .new-salt ∙ salt-timed k s c q;
       counts =
           λ g h. ap (λ (o : Outcome). count (o .box .memory) g) same ∙ fields .counts g (of-box g h) ∙ counts-timed k s c q own g h;
       held-group = ap (λ (o : Outcome). held (o .box .memory)) same ∙ fields .held-group ∙ held-timed k s c q;

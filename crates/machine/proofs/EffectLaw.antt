@@ -87,6 +87,9 @@ module _ (m : List ℕ) (v : Valid m) where
       → Reads (restarted m) (salt m) (changed (count m) (held m) (count m (held m) + 1)) (lastTime m) (groups m) none (repeated pageSize 0)
   restarted-held-reads n = restarted-reads m (v .size) n (omega (arith, v .group n, v .most)) (omega (arith, v .unspent n))
 
+  pub restarted-salt : salt (restarted m) ≡ salt m
+  restarted-salt = same-or-not (held m) none (λ n. ap salt (restarted-none m n)) (λ n. restarted-held-reads n .salt)
+
   pub restarted-time : lastTime (restarted m) ≡ lastTime m
   restarted-time = same-or-not (held m) none (λ n. ap lastTime (restarted-none m n)) (λ n. restarted-held-reads n .time)
 

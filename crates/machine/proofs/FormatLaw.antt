@@ -17,8 +17,7 @@ use Rattle.addressing.proofs.MapLaw.{groupOf-below, placeOf-below, pageBlock-be
 use Rattle.disk.specs.Disk.{block, withBlock}
 use Rattle.disk.proofs.DiskLaw.{block-same, block-other, block-room}
 use Rattle.memory.specs.Layout.{memorySize, saltSize, mostGroups}
-use Rattle.memory.specs.Memory.{groups, held, formatted}
-use Rattle.memory.specs.Memory.{none}
+use Rattle.memory.specs.Memory.{groups, held, formatted, none}
 use Rattle.memory.specs.Claims.{Reads}
 use Rattle.memory.proofs.FormatLaw.{formatted-reads}
 use Rattle.memory.proofs.RangeLaw.{formatted-bytes}

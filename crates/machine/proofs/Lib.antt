@@ -9,6 +9,7 @@ pub mod EffectLaw
 pub mod ValidBoxLaw
 pub mod BytesLaw
 pub mod ChangeLaw
+pub mod TimedLaw
 pub mod AfterLaw
 pub mod FormatLaw
 pub mod ShortcutLaw

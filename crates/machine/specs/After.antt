@@ -1,4 +1,4 @@
--- What an accepted command does to the box, field by field: the last time, the counts, the held group, each group's current page and each
+-- What an accepted command does to the box, field by field: the last time, the salt, the counts, the held group, each group's current page and each
 -- block's content. Each claim is a type; its proof has the claim's name in proofs/Theorems.antt.
 use Prim.Native.Nat.{ℕ, _+_, _<_}
 use mathlib.Core.Path.{_≡_}
@@ -8,7 +8,7 @@ use lib.Dec.{eqb}
 use Rattle.lockpage.specs.declared.Update.the-variants.{Write, Unfreeze, Increment}
 use Rattle.addressing.specs.Map.{groupOf, physical, pageBlock}
 use Rattle.disk.specs.Disk.{block}
-use Rattle.memory.specs.Memory.{count, lastTime, groups, held, none, heldPage}
+use Rattle.memory.specs.Memory.{salt, count, lastTime, groups, held, none, heldPage}
 use Rattle.memory.specs.Claims.{changed}
 use Rattle.machine.specs.declared.Kind.{Kind}
 use Rattle.machine.specs.declared.Kind.the-variants.{Read, Entry, Page, Change, Sync, Restart, NewSalt, Identify, Unknown}
@@ -17,6 +17,18 @@ use Rattle.machine.specs.Tag.{currentPage}
 use Rattle.machine.specs.Effect.{store, change, changedPage}
 use Rattle.machine.specs.Step.{step}
 use Rattle.machine.specs.Claims.{Accepted}
+
+-- the salt: a new one is the data
+abbrev pub saltAfter : Kind → List ℕ → Command → List ℕ
+saltAfter Read m c = salt m
+saltAfter Entry m c = salt m
+saltAfter Page m c = salt m
+saltAfter (Change u) m c = salt m
+saltAfter Sync m c = salt m
+saltAfter Restart m c = salt m
+saltAfter NewSalt m c = c .content
+saltAfter Identify m c = salt m
+saltAfter Unknown m c = salt m
 
 -- the count of group g: an update raises its group's by 1, a restart the held one's, a new salt makes all 0
 abbrev pub countAfter : Kind → List ℕ → Command → ℕ → ℕ
@@ -71,6 +83,7 @@ contentAfter Unknown disk c a = block disk (physical a)
 pub record After (s : Box) (c : Command) : Type 0 where
   pub time : lastTime (step s c .box .memory) ≡ c .now
   pub same-groups : groups (step s c .box .memory) ≡ groups (s .memory)
+  pub new-salt : salt (step s c .box .memory) ≡ saltAfter (kindOf c) (s .memory) c
   pub counts : (g : ℕ) → g < groups (s .memory) → count (step s c .box .memory) g ≡ countAfter (kindOf c) (s .memory) c g
   pub held-group : held (step s c .box .memory) ≡ heldAfter (kindOf c) (s .memory) c
   pub page : (g : ℕ) → g < groups (s .memory) → currentPage (step s c .box) g ≡ pageAfter (kindOf c) s c g
