@@ -115,6 +115,25 @@ all-yes k s c e r =
     accepted-yes 11 (questionsTo k s c) (all-numbered k s c)
     (ap (λ (x : Kind). firstNo (questionsTo x s c)) (sym e) ∙ r)
 
+-- the first two are put to every command
+pub refused-by-second : (s : Box) (c : Command) → (AllYes (question1 (s .memory) ∷ question2 (s .memory) (s .disk) ∷ []) → ⊥)
+    → (1 ≤ refusal s c) × (refusal s c ≤ 2)
+unfolding refusal questions numberedTo
+refused-by-second s c f =
+    let k = kindOf c in
+    stops-within 2 (question1 (s .memory) ∷ question2 (s .memory) (s .disk) ∷ [])
+    (question3 k
+    ∷ question4 (s .memory) (c .now)
+    ∷ question5 k (groups (s .memory)) (c .block)
+    ∷ question6 k (c .content) (c .proof) (c .answer)
+    ∷ question7 k (s .memory) (groupOf (c .block)) (c .proof)
+    ∷ question8 k (s .memory) (groupOf (c .block))
+    ∷ question9 k (c .now) (broughtEntry c)
+    ∷ question10 k (c .now) (broughtEntry c)
+    ∷ question11 k (s .memory) (c .content)
+    ∷ [])
+    refl f
+
 -- ---- the first of them, put to an update
 
 abbrev pub toSeventh : Update → Box → Command → List Question

@@ -32,12 +32,12 @@ use Rattle.machine.specs.Question.{questionsTo, refusal, AllYes}
 use Rattle.machine.specs.Effect.{changedPage}
 use Rattle.machine.specs.Step.{step}
 use Rattle.machine.specs.Run.{Event, Given, after, run, Throughout}
-use Rattle.machine.specs.Claims.{ValidBox}
+use Rattle.machine.specs.Claims.{RefusedBy, ValidBox}
 use Rattle.machine.specs.After.{countAfter}
-use Rattle.machine.specs.Shortcuts.{RefusedBy, SaltStays, TagsDiffer, NotFreeBeforeExpiry, OldPageRefused, LostPageRefused, OnNoPage, SecondUnfreezeRefused}
+use Rattle.machine.specs.Shortcuts.{SaltStays, TagsDiffer, NotFreeBeforeExpiry, OldPageRefused, LostPageRefused, OnNoPage, SecondUnfreezeRefused}
 use Rattle.machine.proofs.KindLaw.{new-salt-number, write-kind, unfreeze-kind, restart-kind}
 use Rattle.machine.proofs.QuestionLaw.{all-yes, refused-by-seventh, refused-by-ninth, got-seventh, nine-seven}
-use Rattle.machine.proofs.StepLaw.{step-number, accepts, accepted-or-same}
+use Rattle.machine.proofs.StepLaw.{step-number, accepts, refused-by, accepted-or-same}
 use Rattle.machine.proofs.TagLaw.{tagged-page, tagged-tag, brought-length, brought-are, message-same}
 use Rattle.machine.proofs.PassedLaw.{passed, changes, changed-group, matched}
 use Rattle.machine.proofs.EffectLaw.{changed-length, count-changed, count-unchanged}
@@ -45,10 +45,6 @@ use Rattle.machine.proofs.BytesLaw.{changed-answer}
 use Rattle.machine.proofs.CaseLaw.{same-or-not}
 use Rattle.machine.proofs.ValidBoxLaw.{accepted-valid}
 use Rattle.machine.proofs.AfterLaw.{accepted-after, own-page, own-count, own-held, lost-count}
-
--- a refusal is answered as a number
-refused-by : (n : ℕ) (s : Box) (c : Command) → (1 ≤ refusal s c) × (refusal s c ≤ n) → RefusedBy n s c
-refused-by n s c h = (omega (arith, h .0, step-number s c), omega (arith, h .1, step-number s c))
 
 -- ---- f = 1 before the expiry
 

@@ -1,6 +1,8 @@
 -- Laws of a step: it is the effect where no question refuses it, and changes nothing where one does. Assumes nothing.
 use mathlib.Core.Path.{_≡_, refl, ap, sym, _∙_}
 use mathlib.Core.Logic.{_⊎_, inl, inr}
+use Prim.Native.Nat.{ℕ, _≤_}
+use native.Mathlib.Omega.{arith}
 use borrow.Author.Tests.{eq-eqb, ne-eqb}
 use Rattle.machine.specs.declared.Kind.{Kind}
 use Rattle.machine.specs.Command.{Box, Command, Outcome, kindOf}
@@ -8,7 +10,7 @@ use Rattle.machine.specs.Question.{refusal}
 use Rattle.machine.specs.Effect.{effect}
 use Rattle.machine.specs.Step.{timed, done, refused, step}
 use Rattle.machine.proofs.CaseLaw.{same-or-not}
-use Rattle.machine.specs.Claims.{Accepted, Unaltered}
+use Rattle.machine.specs.Claims.{Accepted, RefusedBy, Unaltered}
 
 pub step-accepted : (k : Kind) (s : Box) (c : Command) → kindOf c ≡ k → refusal s c ≡ 0
     → step s c ≡ done (s .disk) (effect k (timed s (c .now)) c)
@@ -31,6 +33,9 @@ step-number s c =
 -- so an accepted command is one that no question refuses
 pub accepts : (s : Box) (c : Command) → Accepted s c → refusal s c ≡ 0
 accepts s c a = sym (step-number s c) ∙ a
+
+pub refused-by : (n : ℕ) (s : Box) (c : Command) → (1 ≤ refusal s c) × (refusal s c ≤ n) → RefusedBy n s c
+refused-by n s c h = (omega (arith, h .0, step-number s c), omega (arith, h .1, step-number s c))
 
 pub refused-unaltered : (s : Box) (c : Command) → (refusal s c ≡ 0 → ⊥) → Unaltered s c
 unfolding refused

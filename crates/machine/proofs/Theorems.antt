@@ -3,14 +3,16 @@ use mathlib.Core.Path.{_≡_, refl, ap, sym, subst, _∙_}
 use mathlib.Core.List.{List}
 use Prim.Native.Nat.{ℕ}
 use native.Mathlib.Omega.{arith}
+use borrow.Author.Tests.{eqb-true}
 use lib.ListN.{length}
 use Rattle.octets.specs.Part.{AreBytes}
 use Rattle.addressing.specs.Map.{diskSize}
+use Rattle.memory.specs.Memory.{groups}
 use Rattle.validity.proofs.ValidLaw.{facts}
 use Rattle.machine.specs.Command.{Box, Command, kindOf}
 use Rattle.machine.specs.Question.{refusal, questions}
 use Rattle.machine.specs.Step.{step}
-use Rattle.machine.specs.Claims.{PapersSizes, IsFirstNo, PassesIfAllYes, KindsAreOneToTen, NumberIsFirstNo, RefusalAltersNothing, AcceptedLeavesValid, StaysValid, ByteBox, StepKeepsBytes, SameLengths, StepKeepsLengths, FormattingFormats}
+use Rattle.machine.specs.Claims.{PapersSizes, IsFirstNo, PassesIfAllYes, KindsAreOneToTen, NumberIsFirstNo, RefusalAltersNothing, AcceptedLeavesValid, StaysValid, InvalidRefuses, ByteBox, StepKeepsBytes, SameLengths, StepKeepsLengths, FormattingFormats}
 use Rattle.machine.specs.After.{AcceptedDoes, HeldPageFirst}
 use Rattle.machine.specs.Protection.{Demand3, ReadsAlike}
 use Rattle.machine.specs.Shortcuts.{Shortcuts}
@@ -18,8 +20,8 @@ use Rattle.machine.specs.EdgeValues.{EdgeValues}
 use Rattle.machine.specs.Example.{PremisesMet}
 use Rattle.machine.proofs.CaseLaw.{same-or-not}
 use Rattle.machine.proofs.KindLaw.{one-to-ten}
-use Rattle.machine.proofs.QuestionLaw.{yes-accepted, all-yes, first-no, first-no-only}
-use Rattle.machine.proofs.StepLaw.{step-number, accepts, refused-unaltered}
+use Rattle.machine.proofs.QuestionLaw.{refused-by-second, yes-accepted, all-yes, first-no, first-no-only}
+use Rattle.machine.proofs.StepLaw.{refused-by, step-number, accepts, refused-unaltered}
 use Rattle.machine.proofs.TagLaw.{message-length}
 use Rattle.machine.proofs.PassedLaw.{passed}
 use Rattle.machine.proofs.EffectLaw.{held-first}
@@ -72,6 +74,14 @@ accepted-leaves-valid s c a = accepted-valid s c (accepts s c a)
 pub stays-valid : StaysValid
 unfolding StaysValid
 stays-valid = run-valid
+
+pub invalid-refuses : InvalidRefuses
+unfolding InvalidRefuses
+invalid-refuses s c n =
+    let h =
+    refused-by-second s c
+    (λ y. n (record { memory = y .0; disk = eqb-true (length (s .disk)) (diskSize (groups (s .memory))) (y .1 .0) })) in
+    (refused-by 2 s c h, refused-unaltered s c (λ e. omega (arith, h .0)) .box)
 
 pub step-keeps-bytes : StepKeepsBytes
 unfolding StepKeepsBytes

@@ -24,6 +24,10 @@ use Rattle.machine.specs.Run.{Event, run}
 abbrev pub Accepted : Box → Command → Type 0
 Accepted s c = step s c .number ≡ 0
 
+-- the command is refused, by question n at the latest
+abbrev pub RefusedBy : ℕ → Box → Command → Type 0
+RefusedBy n s c = (1 ≤ step s c .number) × (step s c .number ≤ n)
+
 -- ---- document 01's sizes
 
 -- "proof (page 512, tag 32) and a 544-byte answer buffer"; "salt, group in 8 bytes, count in 4 bytes, page: 556 bytes"
@@ -85,6 +89,10 @@ AcceptedLeavesValid = (s : Box) (c : Command) → Accepted s c → ValidBox (ste
 
 unfoldable pub StaysValid : Type 0
 StaysValid = (s : Box) (es : List Event) → ValidBox s → ValidBox (run s es)
+
+-- "where question 1 or 2 says no to that start, every command is refused", so that the box stays as it is
+unfoldable pub InvalidRefuses : Type 0
+InvalidRefuses = (s : Box) (c : Command) → (ValidBox s → ⊥) → RefusedBy 2 s c × (step s c .box ≡ s)
 
 -- ---- bytes stay bytes, and a buffer keeps its length
 

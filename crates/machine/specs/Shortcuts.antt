@@ -1,6 +1,6 @@
 -- The five shortcuts of document 01, "Shortcuts to rule out": for each, that the controller does not take it. The claim is a type; its
 -- proof is proofs/Theorems.antt, shortcuts.
-use Prim.Native.Nat.{ℕ, _≤_, _<_}
+use Prim.Native.Nat.{ℕ, _<_}
 use mathlib.Core.Path.{_≡_}
 use mathlib.Core.List.{List}
 use Rattle.octets.specs.Part.{AreBytes}
@@ -13,12 +13,8 @@ use Rattle.machine.specs.Command.{Box, Command, kindOf, broughtPage, bro
 use Rattle.machine.specs.Tag.{tagMessage}
 use Rattle.machine.specs.Step.{step}
 use Rattle.machine.specs.Run.{Event, Given, run, Throughout}
-use Rattle.machine.specs.Claims.{Accepted}
+use Rattle.machine.specs.Claims.{Accepted, RefusedBy}
 use Rattle.machine.specs.Protection.{Unforged}
-
--- the command is refused, by question n at the latest
-abbrev pub RefusedBy : ℕ → Box → Command → Type 0
-RefusedBy n s c = (1 ≤ step s c .number) × (step s c .number ≤ n)
 
 -- the command is no accepted new salt
 abbrev pub SaltStays : Box → Event → Type 0
