@@ -2,8 +2,8 @@
 use mathlib.Core.Path.{_≡_, refl, ap, sym, subst, _∙_}
 use mathlib.Core.Logic.{_⊎_}
 use mathlib.Core.List.{List}
-use Prim.Native.Nat.{ℕ, _+_, _<_}
 use mathlib.Core.Bool.{Bool, true, false}
+use Prim.Native.Nat.{ℕ, _+_, _<_}
 use borrow.Author.Tests.{eq-eqb}
 use Rattle.lockpage.specs.declared.Update.{Update}
 use Rattle.addressing.specs.Map.{groupOf, physical, pageBlock}
@@ -25,8 +25,8 @@ use Rattle.machine.proofs.StepLaw.{step-accepted}
 use Rattle.machine.proofs.TagLaw.{current-other}
 use Rattle.machine.proofs.PassedLaw.{Passed, Changes, passed, changes, passed-timed, changed-group, accepted-changes, timed-reads}
 use Rattle.machine.proofs.EffectLaw.{left, count-changed, untouched, count-unchanged, restarted-none, restarted-held-reads, restarted-salt, restarted-time, restarted-groups, restarted-drops, salted-reads}
-use Rattle.machine.proofs.TimedLaw.{in-memory, salt-timed, counts-timed, held-timed, page-timed}
 use Rattle.machine.proofs.ChangeLaw.{change-on-disk, not-none, put-current, put-elsewhere, change-reads, change-page, change-content}
+use Rattle.machine.proofs.TimedLaw.{in-memory, salt-timed, counts-timed, held-timed, page-timed}
 
 -- ---- by kind
 

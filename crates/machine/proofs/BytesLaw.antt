@@ -1,16 +1,15 @@
 -- An accepted command stores and answers bytes, and its answer fills the buffer. Assumes nothing.
 use mathlib.Core.Path.{_≡_, refl, ap, sym, subst, _∙_}
-use mathlib.Core.List.{List, [], _∷_, _++_, append-nil}
-use Prim.Native.Nat.{ℕ, _+_, _-_, _≤_}
+use mathlib.Core.List.{List, [], _∷_, _++_}
+use Prim.Native.Nat.{ℕ, _+_, _≤_}
 use native.Mathlib.Omega.{arith}
 use borrow.Author.Tests.{ltb-true}
 use lib.Dec.{lit<}
 use lib.ListN.{length, length-append}
-use Rattle.octets.specs.Part.{AreBytes, repeated}
+use Rattle.octets.specs.Part.{AreBytes}
 use Rattle.octets.specs.Number.{bytes}
 use Rattle.octets.proofs.BelowLaw.{below-none, below-cons, below-append}
 use Rattle.octets.proofs.NumberLaw.{bytes-length, bytes-are}
-use Rattle.octets.proofs.RepeatedLaw.{repeated-length, repeated-below}
 use Rattle.lockpage.specs.declared.Entry.{Entry as PageEntry}
 use Rattle.lockpage.specs.declared.Update.{Update}
 use Rattle.lockpage.specs.declared.Update.the-variants.{Write, Unfreeze, Increment}
@@ -31,45 +30,16 @@ use Rattle.machine.specs.Command.{Box, Command, Outcome, kindOf, proofSi
 use Rattle.machine.specs.Tag.{tagged, currentPage}
 use Rattle.machine.specs.Question.{refusal}
 use Rattle.machine.specs.Effect.{Store, Effect, stored, effect, read, showEntry, entryAnswer, showPage, putHeld, evict, putContent, changedPage, changedMemory, change, sync, restarted, restart, salted, newSalt, identifySize, identify}
-use Rattle.machine.specs.Step.{padded, step, timed, done}
+use Rattle.machine.specs.Step.{step, timed, done}
 use Rattle.machine.specs.Claims.{ByteBox, ByteCommand, Stored}
 use Rattle.machine.proofs.CaseLaw.{same-or-not}
 use Rattle.machine.proofs.QuestionLaw.{all-yes}
-use Rattle.machine.proofs.StepLaw.{step-accepted}
+use Rattle.machine.proofs.StepLaw.{step-accepted, padded-length, padded-full, padded-are}
 use Rattle.machine.proofs.TagLaw.{tagged-length, tagged-are, brought-length, brought-are, current-length, current-are}
 use Rattle.machine.proofs.PassedLaw.{Passed, Changes, passed, passed-timed, accepted-changes}
 use Rattle.machine.proofs.EffectLaw.{EachStore, each-append, each-keeps, each-put, each-evicted, changed-length, restarted-none, restarted-held}
 
--- ---- the answer
-
-pub padded-length : (named : List ℕ) → length named ≤ answerSize → length (padded named) ≡ answerSize
-unfolding padded
-padded-length named l =
-    length-append named (repeated (answerSize - length named) 0) ∙ omega (arith, repeated-length (answerSize - length named) 0)
-
--- what fills the buffer is not padded
-padded-full : (named : List ℕ) → length named ≡ answerSize → padded named ≡ named
-unfolding padded repeated
-padded-full named l =
-    let room : answerSize - length named ≡ 0 = omega arith in
-    ap (λ (n : ℕ). named ++ repeated n 0) room ∙ append-nil named
-
-padded-are : (named : List ℕ) → AreBytes named → AreBytes (padded named)
-unfolding padded
-padded-are named b =
-    below-append 256 named (repeated (answerSize - length named) 0) b (repeated-below 256 (answerSize - length named) 0 (lit< tt))
-
-entry-short : (now : ℕ) (e : PageEntry) → length (entryAnswer now e) ≤ answerSize
-unfolding entryAnswer
-entry-short now e =
-    let rest : List ℕ = timeLeftBytes now e ++ (stateNumber (state now e) ∷ []) in
-    omega (
-      arith,
-      length-append (entryBytes e) rest,
-      length-append (timeLeftBytes now e) (stateNumber (state now e) ∷ []),
-      entryBytes-length e,
-      timeLeftBytes-length now e,
-    )
+-- ---- bytes
 
 entry-are : (now : ℕ) (e : PageEntry) → AreBytes (entryAnswer now e)
 unfolding entryAnswer
@@ -77,30 +47,6 @@ entry-are now e =
     below-append 256 (entryBytes e) (timeLeftBytes now e ++ (stateNumber (state now e) ∷ [])) (entryBytes-are e)
     (below-append 256 (timeLeftBytes now e) (stateNumber (state now e) ∷ []) (timeLeftBytes-are now e)
     (below-cons 256 (stateNumber (state now e)) [] (stateNumber-byte (state now e)) (below-none 256 (lit< tt))))
-
--- what is named is no longer than the buffer
-named-short : (k : Kind) (s : Box) (c : Command) → Passed k s c → ((u : Update) → k ≡ Change u → Changes u s c)
-    → length (effect k s c .named) ≤ answerSize
-unfolding effect read showEntry showPage change sync restart newSalt identify
-named-short Read s c q x =
-    let below = physical-below (groups (s .memory)) (c .block) (ltb-true (c .block) (dataBlocks (groups (s .memory))) (q .range)) in
-    omega (arith, block-length (s .disk) (physical (c .block)) (block-room (s .disk) (groups (s .memory)) (physical (c .block)) (q .disk) below))
-named-short Entry s c q x = entry-short (c .now) (entryAt (currentPage s (groupOf (c .block))) (placeOf (c .block)))
-named-short Page s c q x =
-    let long = current-length s (c .block) (q .memory .size) (q .disk) (ltb-true (c .block) (groups (s .memory)) (q .range)) in
-    omega (arith, tagged-length (s .memory) (c .block) (currentPage s (c .block)) long)
-named-short (Change u) s c q x =
-    let m = changedMemory (s .memory) (groupOf (c .block)) (changedPage u c) in
-    omega (arith, tagged-length m (groupOf (c .block)) (changedPage u c) (changed-length u c (x u refl .proof)))
-named-short Sync s c q x = omega arith
-named-short Restart s c q x = omega arith
-named-short NewSalt s c q x = omega arith
-named-short Identify s c q x =
-    let g = groups (s .memory) in
-    omega (arith, length-append (bytes identifySize g) (bytes identifySize (dataBlocks g)), bytes-length identifySize g, bytes-length identifySize (dataBlocks g))
-named-short Unknown s c q x = omega arith
-
--- ---- bytes
 
 abbrev pub ByteStore : Store → Type 0
 ByteStore x = AreBytes (x .bytes)
@@ -183,6 +129,41 @@ effect-bytes Unknown s c x b d = record { stores = tt; memory = b .memory; named
 pub stored-are : (d : List ℕ) (xs : List Store) → EachStore ByteStore xs → AreBytes d → AreBytes (stored d xs)
 stored-are =
     each-keeps (λ (d : List ℕ). AreBytes d) ByteStore (λ d x b a. withBlock-are d (x .place) (x .bytes) a b)
+
+-- ---- what is named is no longer than the buffer
+
+entry-short : (now : ℕ) (e : PageEntry) → length (entryAnswer now e) ≤ answerSize
+unfolding entryAnswer
+entry-short now e =
+    let rest : List ℕ = timeLeftBytes now e ++ (stateNumber (state now e) ∷ []) in
+    omega (
+      arith,
+      length-append (entryBytes e) rest,
+      length-append (timeLeftBytes now e) (stateNumber (state now e) ∷ []),
+      entryBytes-length e,
+      timeLeftBytes-length now e,
+    )
+
+named-short : (k : Kind) (s : Box) (c : Command) → Passed k s c → ((u : Update) → k ≡ Change u → Changes u s c)
+    → length (effect k s c .named) ≤ answerSize
+unfolding effect read showEntry showPage change sync restart newSalt identify
+named-short Read s c q x =
+    let below = physical-below (groups (s .memory)) (c .block) (ltb-true (c .block) (dataBlocks (groups (s .memory))) (q .range)) in
+    omega (arith, block-length (s .disk) (physical (c .block)) (block-room (s .disk) (groups (s .memory)) (physical (c .block)) (q .disk) below))
+named-short Entry s c q x = entry-short (c .now) (entryAt (currentPage s (groupOf (c .block))) (placeOf (c .block)))
+named-short Page s c q x =
+    let long = current-length s (c .block) (q .memory .size) (q .disk) (ltb-true (c .block) (groups (s .memory)) (q .range)) in
+    omega (arith, tagged-length (s .memory) (c .block) (currentPage s (c .block)) long)
+named-short (Change u) s c q x =
+    let m = changedMemory (s .memory) (groupOf (c .block)) (changedPage u c) in
+    omega (arith, tagged-length m (groupOf (c .block)) (changedPage u c) (changed-length u c (x u refl .proof)))
+named-short Sync s c q x = omega arith
+named-short Restart s c q x = omega arith
+named-short NewSalt s c q x = omega arith
+named-short Identify s c q x =
+    let g = groups (s .memory) in
+    omega (arith, length-append (bytes identifySize g) (bytes identifySize (dataBlocks g)), bytes-length identifySize g, bytes-length identifySize (dataBlocks g))
+named-short Unknown s c q x = omega arith
 
 -- ---- an accepted command
 

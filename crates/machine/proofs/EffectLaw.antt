@@ -9,10 +9,10 @@ use lib.Dec.{eqb}
 use lib.ListN.{length}
 use Rattle.octets.specs.Part.{repeated}
 use Rattle.lockpage.specs.Size.{blockSize, pageSize}
-use Rattle.addressing.specs.Map.{groupBlocks, diskSize, dataBlocks, groupOf, placeOf, physical, pageBlock}
 use Rattle.lockpage.specs.declared.Update.{Update}
 use Rattle.lockpage.specs.declared.Update.the-variants.{Write, Unfreeze, Increment}
 use Rattle.lockpage.proofs.PageLaw.{entry-room, withEntry-length}
+use Rattle.addressing.specs.Map.{groupBlocks, diskSize, dataBlocks, groupOf, placeOf, physical, pageBlock}
 use Rattle.addressing.proofs.MapLaw.{placeOf-below, physical-below, physical-page, pageBlock-below}
 use Rattle.disk.specs.Disk.{block, withBlock}
 use Rattle.disk.proofs.DiskLaw.{withBlock-length, block-other, block-room}
@@ -21,10 +21,10 @@ use Rattle.memory.specs.Memory.{salt, count, lastTime, groups, held, none, held
 use Rattle.memory.specs.Claims.{Reads, changed}
 use Rattle.memory.proofs.FieldLaw.{salt-set, count-set, counts-cleared, page-held, page-dropped, heldPage-length}
 use Rattle.validity.proofs.ValidLaw.{Valid}
-use Rattle.machine.specs.Effect.{Store, Effect, store, stored, putHeld, evict, putContent, changedPage, changedMemory, change, restarted, salted}
-use Rattle.machine.specs.Command.{Box, Command, boxOf, proofSize, broughtPage}
 use Rattle.machine.specs.declared.Kind.the-variants.{Change}
+use Rattle.machine.specs.Command.{Box, Command, boxOf, proofSize, broughtPage}
 use Rattle.machine.specs.Question.{contentLength}
+use Rattle.machine.specs.Effect.{Store, Effect, store, stored, putHeld, evict, putContent, changedPage, changedMemory, change, restarted, salted}
 use Rattle.machine.proofs.CaseLaw.{same-or-not}
 use Rattle.machine.proofs.TagLaw.{brought-length}
 

@@ -32,8 +32,8 @@ use Rattle.machine.specs.Tag.{tag, currentPage}
 use Rattle.machine.specs.Question.{contentLength, questionsTo, questions, firstNo, refusal, AllYes}
 use Rattle.machine.specs.Effect.{changedPage}
 use Rattle.machine.specs.Step.{step}
-use Rattle.machine.specs.Claims.{ValidBox}
 use Rattle.machine.specs.Run.{Given}
+use Rattle.machine.specs.Claims.{ValidBox}
 use Rattle.machine.specs.Protection.{Unforged}
 use Rattle.machine.specs.Example.{updating, plain}
 use Rattle.machine.proofs.QuestionLaw.{yes-accepted}

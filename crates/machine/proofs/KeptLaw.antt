@@ -13,16 +13,16 @@ use Rattle.lockpage.specs.Page.{entryAt}
 use Rattle.lockpage.proofs.UpdateLaw.{allowed-write}
 use Rattle.addressing.specs.Map.{groupOf, placeOf, pageBlock}
 use Rattle.addressing.proofs.MapLaw.{physical-same, pageBlock-same, physical-page, place-same}
-use Rattle.memory.proofs.FieldLaw.{page-dropped}
-use Rattle.memory.specs.Memory.{lastTime, groups, held, none}
 use Rattle.disk.specs.Disk.{block}
+use Rattle.memory.specs.Memory.{lastTime, groups, held, none}
+use Rattle.memory.proofs.FieldLaw.{page-dropped}
 use Rattle.validity.proofs.ValidLaw.{Valid}
 use Rattle.machine.specs.declared.Kind.{Kind}
 use Rattle.machine.specs.declared.Kind.the-variants.{Read, Entry, Page, Change, Sync, Restart, NewSalt, Identify, Unknown}
 use Rattle.machine.specs.Command.{Box, Command, broughtPage, broughtEntry}
 use Rattle.machine.specs.Tag.{currentPage}
-use Rattle.machine.specs.Effect.{stored, effect, read, showEntry, showPage, putHeld, evict, putContent, changedPage, change, sync, restart, newSalt, identify}
 use Rattle.machine.specs.Question.{contentLength}
+use Rattle.machine.specs.Effect.{stored, effect, read, showEntry, showPage, putHeld, evict, putContent, changedPage, change, sync, restart, newSalt, identify}
 use Rattle.machine.specs.Step.{timed}
 use Rattle.machine.proofs.TagLaw.{current, brought-length}
 use Rattle.machine.proofs.PassedLaw.{Passed, Changes, changed-group, timed-reads}

@@ -2,9 +2,9 @@
 use mathlib.Core.Path.{_≡_, refl, ap, sym, _∙_}
 use mathlib.Core.Logic.{_⊎_, inl, inr, ⊎-elim}
 use mathlib.Core.List.{List, [], _∷_}
+use mathlib.Core.Bool.{false≢true}
 use Prim.Native.Nat.{ℕ, zero, suc, _+_, _≤_, _<_}
 use native.Mathlib.Omega.{arith}
-use mathlib.Core.Bool.{false≢true}
 use lib.Dec.{lit≤}
 use lib.ListN.{length, getD}
 use Rattle.lockpage.specs.declared.Update.the-variants.{Write, Unfreeze, Increment}

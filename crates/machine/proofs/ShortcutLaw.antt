@@ -9,8 +9,8 @@ use Rattle.octets.proofs.EqualLaw.{equal-true}
 use Rattle.lockpage.specs.declared.State.the-variants.{Free}
 use Rattle.lockpage.specs.declared.Update.{Update}
 use Rattle.lockpage.specs.declared.Update.the-variants.{Write, Unfreeze}
-use Rattle.lockpage.specs.Entry.{flag, frozen, unfrozen}
 use Rattle.lockpage.specs.declared.Entry.{Entry as PageEntry}
+use Rattle.lockpage.specs.Entry.{flag, frozen, unfrozen}
 use Rattle.lockpage.specs.State.{state}
 use Rattle.lockpage.specs.Update.{updated}
 use Rattle.lockpage.specs.Page.{entryAt}
@@ -35,15 +35,15 @@ use Rattle.machine.specs.Run.{Event, Given, after, run, Throughout}
 use Rattle.machine.specs.Claims.{RefusedBy, ValidBox}
 use Rattle.machine.specs.After.{countAfter}
 use Rattle.machine.specs.Shortcuts.{SaltStays, TagsDiffer, NotFreeBeforeExpiry, OldPageRefused, LostPageRefused, OnNoPage, SecondUnfreezeRefused}
+use Rattle.machine.proofs.CaseLaw.{same-or-not}
 use Rattle.machine.proofs.KindLaw.{new-salt-number, write-kind, unfreeze-kind, restart-kind}
 use Rattle.machine.proofs.QuestionLaw.{all-yes, refused-by-seventh, refused-by-ninth, got-seventh, nine-seven}
 use Rattle.machine.proofs.StepLaw.{step-number, accepts, refused-by, accepted-or-same}
 use Rattle.machine.proofs.TagLaw.{tagged-page, tagged-tag, brought-length, brought-are, message-same}
 use Rattle.machine.proofs.PassedLaw.{passed, changes, changed-group, matched}
 use Rattle.machine.proofs.EffectLaw.{changed-length, count-changed, count-unchanged}
-use Rattle.machine.proofs.BytesLaw.{changed-answer}
-use Rattle.machine.proofs.CaseLaw.{same-or-not}
 use Rattle.machine.proofs.ValidBoxLaw.{accepted-valid}
+use Rattle.machine.proofs.BytesLaw.{changed-answer}
 use Rattle.machine.proofs.AfterLaw.{accepted-after, own-page, own-count, own-held, lost-count}
 
 -- ---- f = 1 before the expiry

@@ -5,8 +5,8 @@ use mathlib.Core.Logic.{⊎-elim}
 use mathlib.Core.List.{List, [], _∷_, _++_, append-assoc}
 use Prim.Native.Nat.{ℕ, _-_, _<_}
 use native.Mathlib.Omega.{arith}
-use lib.ListN.{length}
 use borrow.Author.Tests.{ltb-true}
+use lib.ListN.{length}
 use Rattle.octets.specs.Part.{repeated}
 use Rattle.lockpage.specs.declared.Entry.{Entry as PageEntry}
 use Rattle.lockpage.specs.declared.Update.{Update}

@@ -1,26 +1,33 @@
--- Laws of a step: it is the effect where no question refuses it, and changes nothing where one does. Assumes nothing.
+-- Laws of a step: it is the effect where no question refuses it, and changes nothing where one does; and of the padded answer. Assumes
+-- nothing.
 use mathlib.Core.Path.{_≡_, refl, ap, sym, _∙_}
 use mathlib.Core.Logic.{_⊎_, inl, inr}
-use Prim.Native.Nat.{ℕ, _≤_}
+use mathlib.Core.List.{List, _++_, append-nil}
+use Prim.Native.Nat.{ℕ, _-_, _≤_}
 use native.Mathlib.Omega.{arith}
 use borrow.Author.Tests.{eq-eqb, ne-eqb}
+use lib.Dec.{lit<}
+use lib.ListN.{length, length-append}
+use Rattle.octets.specs.Part.{AreBytes, repeated}
+use Rattle.octets.proofs.BelowLaw.{below-append}
+use Rattle.octets.proofs.RepeatedLaw.{repeated-length, repeated-below}
 use Rattle.machine.specs.declared.Kind.{Kind}
-use Rattle.machine.specs.Command.{Box, Command, Outcome, kindOf}
+use Rattle.machine.specs.Command.{Box, Command, Outcome, kindOf, answerSize}
 use Rattle.machine.specs.Question.{refusal}
 use Rattle.machine.specs.Effect.{effect}
-use Rattle.machine.specs.Step.{timed, done, refused, step}
-use Rattle.machine.proofs.CaseLaw.{same-or-not}
+use Rattle.machine.specs.Step.{padded, timed, done, refused, step}
 use Rattle.machine.specs.Claims.{Accepted, RefusedBy, Unaltered}
+use Rattle.machine.proofs.CaseLaw.{same-or-not}
+
+step-refused : (s : Box) (c : Command) → (refusal s c ≡ 0 → ⊥) → step s c ≡ refused (refusal s c) s c
+unfolding step
+step-refused s c r = rw (step, ne-eqb (refusal s c) 0 r)
 
 pub step-accepted : (k : Kind) (s : Box) (c : Command) → kindOf c ≡ k → refusal s c ≡ 0
     → step s c ≡ done (s .disk) (effect k (timed s (c .now)) c)
 unfolding step
 step-accepted k s c e r =
     rw (step, eq-eqb (refusal s c) 0 r) (ap (λ (x : Kind). done (s .disk) (effect x (timed s (c .now)) c)) e)
-
-step-refused : (s : Box) (c : Command) → (refusal s c ≡ 0 → ⊥) → step s c ≡ refused (refusal s c) s c
-unfolding step
-step-refused s c r = rw (step, ne-eqb (refusal s c) 0 r)
 
 -- the number answered is that of the first no
 pub step-number : (s : Box) (c : Command) → step s c .number ≡ refusal s c
@@ -48,3 +55,22 @@ refused-unaltered s c r =
 -- a command is accepted, or leaves the box as it was
 pub accepted-or-same : (s : Box) (c : Command) → (refusal s c ≡ 0) ⊎ (step s c .box ≡ s)
 accepted-or-same s c = same-or-not (refusal s c) 0 (λ r. inl r) (λ n. inr (refused-unaltered s c n .box))
+
+-- ---- the answer
+
+pub padded-length : (named : List ℕ) → length named ≤ answerSize → length (padded named) ≡ answerSize
+unfolding padded
+padded-length named l =
+    length-append named (repeated (answerSize - length named) 0) ∙ omega (arith, repeated-length (answerSize - length named) 0)
+
+-- what fills the buffer is not padded
+pub padded-full : (named : List ℕ) → length named ≡ answerSize → padded named ≡ named
+unfolding padded repeated
+padded-full named l =
+    let room : answerSize - length named ≡ 0 = omega arith in
+    ap (λ (n : ℕ). named ++ repeated n 0) room ∙ append-nil named
+
+pub padded-are : (named : List ℕ) → AreBytes named → AreBytes (padded named)
+unfolding padded
+padded-are named b =
+    below-append 256 named (repeated (answerSize - length named) 0) b (repeated-below 256 (answerSize - length named) 0 (lit< tt))

@@ -2,9 +2,9 @@
 -- changes nothing else. Assumes nothing.
 use mathlib.Core.Path.{_≡_, refl, ap, ap₂, sym, _∙_}
 use mathlib.Core.List.{List}
+use mathlib.Core.Bool.{true, false}
 use Prim.Native.Nat.{ℕ, _+_, _<_}
 use native.Mathlib.Omega.{arith}
-use mathlib.Core.Bool.{true, false}
 use lib.Dec.{eqb}
 use Rattle.lockpage.specs.declared.Update.{Update}
 use Rattle.addressing.specs.Map.{groupOf}

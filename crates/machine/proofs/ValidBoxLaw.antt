@@ -22,11 +22,11 @@ use Rattle.machine.specs.Effect.{Store, stored, effect, read, showEntry,
 use Rattle.machine.specs.Step.{step, timed, done}
 use Rattle.machine.specs.Run.{Event, Given, after, run}
 use Rattle.machine.specs.Claims.{ValidBox}
+use Rattle.machine.proofs.CaseLaw.{same-or-not}
 use Rattle.machine.proofs.QuestionLaw.{all-yes}
 use Rattle.machine.proofs.StepLaw.{step-accepted, accepted-or-same}
 use Rattle.machine.proofs.PassedLaw.{Passed, Changes, passed, passed-timed, changed-group, accepted-changes}
 use Rattle.machine.proofs.EffectLaw.{left, EachStore, Whole, each-append, each-evicted, put-whole, content-whole, stored-length, changed-length, count-changed, changed-reads, restarted-none, restarted-held, restarted-groups, salted-reads}
-use Rattle.machine.proofs.CaseLaw.{same-or-not}
 
 pub valid-box : (k : Kind) (s : Box) (c : Command) → Passed k s c → ValidBox s
 valid-box k s c q = record { memory = is-valid (s .memory) (q .memory); disk = q .disk }

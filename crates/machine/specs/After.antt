@@ -1,9 +1,9 @@
 -- What an accepted command does to the box, field by field: the last time, the salt, the counts, the held group, each group's current page and each
 -- block's content. Each claim is a type; its proof has the claim's name in proofs/Theorems.antt.
-use Prim.Native.Nat.{ℕ, _+_, _<_}
 use mathlib.Core.Path.{_≡_}
 use mathlib.Core.Bool.{true, false}
 use mathlib.Core.List.{List, [], _∷_}
+use Prim.Native.Nat.{ℕ, _+_, _<_}
 use lib.Dec.{eqb}
 use Rattle.lockpage.specs.declared.Update.the-variants.{Write, Unfreeze, Increment}
 use Rattle.addressing.specs.Map.{groupOf, physical, pageBlock}

@@ -1,9 +1,9 @@
 -- What a reader wants to know of the controller, beside demand 3. Each claim is a type; its proof has the claim's name in
 -- proofs/Theorems.antt. That a step comes to an answer for every box and command needs no claim: step is a function.
-use Prim.Native.Nat.{ℕ, _≤_, _<_}
 use mathlib.Core.Path.{_≡_}
 use mathlib.Core.Bool.{true, false}
 use mathlib.Core.List.{List, _∷_, _++_}
+use Prim.Native.Nat.{ℕ, _≤_, _<_}
 use lib.ListN.{length}
 use Rattle.octets.specs.Part.{AreBytes, repeated}
 use Rattle.lockpage.specs.Size.{pageSize}

@@ -1,6 +1,6 @@
 -- What the controller is given and what it leaves, after document 01, "Commands". Assumes nothing: these are definitions.
-use Prim.Native.Nat.{ℕ, _+_}
 use mathlib.Core.List.{List, [], _∷_}
+use Prim.Native.Nat.{ℕ, _+_}
 use lib.ListN.{getD}
 use Rattle.octets.specs.Part.{part}
 use Rattle.lockpage.specs.Size.{pageSize}

@@ -5,10 +5,10 @@ use mathlib.Core.List.{[], _∷_}
 use Prim.Native.Nat.{ℕ}
 use lib.IntN.{pos}
 use Rattle.octets.specs.Number.{bytes}
+use Rattle.lockpage.specs.Size.{wordSize}
 use Rattle.lockpage.specs.declared.Entry.{Entry}
 use Rattle.lockpage.specs.declared.State.the-variants.{Free, Counting}
 use Rattle.lockpage.specs.declared.Update.the-variants.{Write, Unfreeze, Increment}
-use Rattle.lockpage.specs.Size.{wordSize}
 use Rattle.lockpage.specs.Entry.{entryBytes}
 use Rattle.lockpage.specs.State.{state, timeLeft, timeLeftBytes}
 use Rattle.lockpage.specs.Update.{updated}

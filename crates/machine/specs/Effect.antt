@@ -1,8 +1,8 @@
 -- What an accepted command stores and answers, kind by kind, after document 01, "Commands". The box is the one that the command gets,
 -- its last time set to now. Assumes nothing: these are definitions.
-use Prim.Native.Nat.{ℕ, _+_}
 use mathlib.Core.Bool.{true, false}
 use mathlib.Core.List.{List, [], _∷_, _++_}
+use Prim.Native.Nat.{ℕ, _+_}
 use lib.Dec.{eqb}
 use Rattle.octets.specs.Number.{bytes}
 use Rattle.lockpage.specs.declared.Entry.{Entry as PageEntry}

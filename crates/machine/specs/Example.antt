@@ -1,8 +1,8 @@
 -- The premises of demand 3 can be met: a start and a run that unfreezes a block, restarts, unfreezes it again and overwrites it, each
 -- command accepted and no page forged. The claim is a type; its proof is proofs/Theorems.antt, premises-met.
-use Prim.Native.Nat.{ℕ}
 use mathlib.Core.Path.{_≡_}
 use mathlib.Core.List.{List, [], _∷_}
+use Prim.Native.Nat.{ℕ}
 use Rattle.octets.specs.Part.{AreBytes, repeated}
 use Rattle.lockpage.specs.Size.{blockSize}
 use Rattle.lockpage.specs.Entry.{entry}

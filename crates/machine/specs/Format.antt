@@ -1,7 +1,7 @@
 -- Formatting, after document 01, "Controller memory": "Formatting takes G and a salt". Assumes nothing: these are definitions.
-use Prim.Native.Nat.{ℕ, zero, suc}
 use mathlib.Core.Bool.{true, false, _&&_}
 use mathlib.Core.List.{List, [], _∷_, _++_}
+use Prim.Native.Nat.{ℕ, zero, suc}
 use lib.ListN.{length}
 use lib.Dec.{eqb, leb}
 use Rattle.lockpage.specs.Page.{blankPage}

@@ -1,7 +1,7 @@
 -- Demand 3, after document 01, "The two runs": one claim about two whole lists. Its proof is proofs/Theorems.antt, demand-3.
-use Prim.Native.Nat.{ℕ, _+_, _<_}
 use mathlib.Core.Path.{_≡_}
 use mathlib.Core.List.{List, _++_, _∷_}
+use Prim.Native.Nat.{ℕ, _+_, _<_}
 use Rattle.octets.specs.Part.{AreBytes}
 use Rattle.lockpage.specs.declared.Entry.{Entry}
 use Rattle.lockpage.specs.Entry.{timeOfWrite, flag, frozen, unfrozen}
@@ -13,8 +13,8 @@ use Rattle.machine.specs.Command.{Box, Command, broughtPage}
 use Rattle.machine.specs.Tag.{currentPage}
 use Rattle.machine.specs.Question.{questions, GetsYes}
 use Rattle.machine.specs.Step.{step, padded}
-use Rattle.machine.specs.Claims.{Accepted}
 use Rattle.machine.specs.Run.{Event, Given, run, Throughout}
+use Rattle.machine.specs.Claims.{Accepted}
 
 -- ---- the premises
 

@@ -1,8 +1,8 @@
 -- The five shortcuts of document 01, "Shortcuts to rule out": for each, that the controller does not take it. The claim is a type; its
 -- proof is proofs/Theorems.antt, shortcuts.
-use Prim.Native.Nat.{ℕ, _<_}
 use mathlib.Core.Path.{_≡_}
 use mathlib.Core.List.{List}
+use Prim.Native.Nat.{ℕ, _<_}
 use Rattle.octets.specs.Part.{AreBytes}
 use Rattle.lockpage.specs.declared.Update.{Update}
 use Rattle.lockpage.specs.Entry.{flag, unfrozen}

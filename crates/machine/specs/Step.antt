@@ -1,7 +1,7 @@
 -- One command, after document 01, "Commands" and "Questions". Assumes nothing: these are definitions.
-use Prim.Native.Nat.{ℕ, _-_}
 use mathlib.Core.Bool.{true, false}
 use mathlib.Core.List.{List, _++_}
+use Prim.Native.Nat.{ℕ, _-_}
 use lib.ListN.{length}
 use lib.Dec.{eqb}
 use Rattle.octets.specs.Part.{repeated}

@@ -1,8 +1,8 @@
 -- The tag of a page and a group's current page, after document 01, "Tag" and "Controller memory". Assumes nothing: these are
 -- definitions.
-use Prim.Native.Nat.{ℕ}
 use mathlib.Core.Bool.{true, false}
 use mathlib.Core.List.{List, _++_}
+use Prim.Native.Nat.{ℕ}
 use lib.Dec.{eqb}
 use Rattle.octets.specs.Number.{bytes}
 use Rattle.addressing.specs.Map.{pageBlock}
