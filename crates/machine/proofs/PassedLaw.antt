@@ -7,7 +7,6 @@ use native.Mathlib.Omega.{arith}
 use borrow.Author.Tests.{eqb-true, leb-true, ltb-true}
 use lib.Dec.{eqb, leb}
 use lib.ListN.{length}
-use Rattle.octets.proofs.EqualLaw.{equal-true}
 use Rattle.lockpage.specs.declared.Update.{Update}
 use Rattle.lockpage.specs.State.{state}
 use Rattle.lockpage.specs.Update.{latestTime, updated, allowed, withinLimit}
@@ -20,8 +19,7 @@ use Rattle.validity.specs.Valid.{countLimit}
 use Rattle.validity.proofs.ValidLaw.{Valid, facts, valid-time}
 use Rattle.machine.specs.declared.Kind.{Kind}
 use Rattle.machine.specs.declared.Kind.the-variants.{Change}
-use Rattle.machine.specs.Command.{Box, Command, kindOf, proofSize, broughtPage, broughtTag, broughtEntry, answerSize}
-use Rattle.machine.specs.Tag.{tag}
+use Rattle.machine.specs.Command.{Box, Command, kindOf, proofSize, broughtEntry, answerSize}
 use Rattle.machine.specs.Question.{question5, contentLength, proofLength, questionsTo, refusal, HasYes, AllYes}
 use Rattle.machine.specs.Step.{timed}
 use Rattle.machine.proofs.QuestionLaw.{all-yes}
@@ -82,10 +80,6 @@ changes u s c h =
       may = h .1 .1 .1 .1 .1 .1 .1 .1 .0;
       within = h .1 .1 .1 .1 .1 .1 .1 .1 .1 .0;
     }
-
-pub matched : (u : Update) (s : Box) (c : Command) → AllYes (questionsTo (Change u) s c)
-    → broughtTag (c .proof) ≡ tag (s .memory) (groupOf (c .block)) (broughtPage (c .proof))
-matched u s c h = equal-true (broughtTag (c .proof)) _ (h .1 .1 .1 .1 .1 .1 .0)
 
 -- ---- once the last time is set
 

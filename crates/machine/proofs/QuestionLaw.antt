@@ -9,11 +9,15 @@ use native.Mathlib.Omega.{arith}
 use borrow.Author.Tests.{leb-true, eq-eqb}
 use lib.Dec.{eqb, leb}
 use Rattle.lockpage.specs.declared.Update.{Update}
+use Rattle.octets.proofs.EqualLaw.{equal-true}
+use Rattle.lockpage.specs.State.{state}
+use Rattle.lockpage.specs.Update.{allowed}
 use Rattle.addressing.specs.Map.{groupOf}
 use Rattle.memory.specs.Memory.{groups}
 use Rattle.machine.specs.declared.Kind.{Kind}
 use Rattle.machine.specs.declared.Kind.the-variants.{Read, Entry, Page, Change, Sync, Restart, NewSalt, Identify, Unknown}
-use Rattle.machine.specs.Command.{Box, Command, kindOf, broughtEntry}
+use Rattle.machine.specs.Command.{Box, Command, kindOf, broughtPage, broughtTag, broughtEntry}
+use Rattle.machine.specs.Tag.{tag}
 use Rattle.machine.specs.Question.{Question, Put, NotPut, question1, question2, question3, question4, question5, question6, question7, question8, question9, question10, question11, questions, questionsTo, firstNo, refusal, AllYes, GetsYes}
 use Rattle.machine.specs.Claims.{IsFirstNo}
 
@@ -203,3 +207,12 @@ pub no-seventh : (s : Box) (c : Command) → kindOf c ≡ Restart → GetsYes 7 
 unfolding questions asks
 no-seventh s c e h =
     false≢true (asked 7 (questionsTo Restart s c) (subst (λ (k : Kind). GetsYes 7 (questionsTo k s c)) e h))
+
+-- what the last of them says
+pub seventh-yes : (u : Update) (s : Box) (c : Command) → AllYes (toSeventh u s c)
+    → broughtTag (c .proof) ≡ tag (s .memory) (groupOf (c .block)) (broughtPage (c .proof))
+seventh-yes u s c h =
+    equal-true (broughtTag (c .proof)) (tag (s .memory) (groupOf (c .block)) (broughtPage (c .proof))) (h .1 .1 .1 .1 .1 .1 .0)
+
+pub ninth-yes : (u : Update) (s : Box) (c : Command) → AllYes (toNinth u s c) → allowed u (state (c .now) (broughtEntry c)) ≡ true
+ninth-yes u s c h = h .1 .1 .1 .1 .1 .1 .1 .1 .0

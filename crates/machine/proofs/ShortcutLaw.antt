@@ -5,7 +5,6 @@ use mathlib.Core.List.{List, [], _∷_}
 use Prim.Native.Nat.{ℕ, _+_, _^_, _≤_, _<_}
 use native.Mathlib.Omega.{arith}
 use lib.ListN.{length}
-use Rattle.octets.proofs.EqualLaw.{equal-true}
 use Rattle.lockpage.specs.declared.State.the-variants.{Free}
 use Rattle.lockpage.specs.declared.Update.{Update}
 use Rattle.lockpage.specs.declared.Update.the-variants.{Write, Unfreeze}
@@ -37,10 +36,10 @@ use Rattle.machine.specs.After.{countAfter}
 use Rattle.machine.specs.Shortcuts.{SaltStays, TagsDiffer, NotFreeBeforeExpiry, OldPageRefused, LostPageRefused, OnNoPage, SecondUnfreezeRefused}
 use Rattle.machine.proofs.CaseLaw.{same-or-not}
 use Rattle.machine.proofs.KindLaw.{new-salt-number, write-kind, unfreeze-kind, restart-kind}
-use Rattle.machine.proofs.QuestionLaw.{all-yes, refused-by-seventh, refused-by-ninth, got-seventh, nine-seven}
+use Rattle.machine.proofs.QuestionLaw.{all-seven, all-yes, refused-by-seventh, refused-by-ninth, got-seventh, nine-seven, seventh-yes, ninth-yes}
 use Rattle.machine.proofs.StepLaw.{step-number, accepts, refused-by, accepted-or-same}
 use Rattle.machine.proofs.TagLaw.{tagged-page, tagged-tag, brought-length, brought-are, message-same}
-use Rattle.machine.proofs.PassedLaw.{passed, changes, changed-group, matched}
+use Rattle.machine.proofs.PassedLaw.{passed, changes, changed-group}
 use Rattle.machine.proofs.EffectLaw.{changed-length, count-changed, count-unchanged}
 use Rattle.machine.proofs.ValidBoxLaw.{accepted-valid}
 use Rattle.machine.proofs.BytesLaw.{changed-answer}
@@ -55,7 +54,7 @@ not-free-before-expiry s c k f l =
     refused-by 9 s c
     (refused-by-ninth u s c (write-kind (c .kind) (c .value) k)
     (λ h.
-    let free = allowed-write (c .value) (state (c .now) (broughtEntry c)) (h .1 .1 .1 .1 .1 .1 .1 .1 .0) in
+    let free = allowed-write (c .value) (state (c .now) (broughtEntry c)) (ninth-yes u s c h) in
     let found : Says (c .now) (broughtEntry c) Free = subst (Says (c .now) (broughtEntry c)) free (says (c .now) (broughtEntry c)) in
     omega (arith, found .1)))
 
@@ -84,7 +83,7 @@ second-unfreeze-refused s c d kc kd same bytes a u =
     ∙ own-page Unfreeze s c ec (accepts s c a) in
     let found : broughtEntry d ≡ updated Unfreeze (c .now) e =
     ap (λ (p : List ℕ). entryAt p (placeOf (d .block))) brings ∙ ap (λ (b : ℕ). entryAt (changedPage Unfreeze c) (placeOf b)) same ∙ stored in
-    let is-frozen = allowed-unfreeze (state (d .now) (broughtEntry d)) (h .1 .1 .1 .1 .1 .1 .1 .1 .0) in
+    let is-frozen = allowed-unfreeze (state (d .now) (broughtEntry d)) (ninth-yes Unfreeze t d h) in
     let still : flag (broughtEntry d .stamp) ≡ frozen = subst (Says (d .now) (broughtEntry d)) is-frozen (says (d .now) (broughtEntry d)) in
     let now : flag (broughtEntry d .stamp) ≡ unfrozen = ap (λ (i : PageEntry). flag (i .stamp)) found ∙ unfrozen-flag (c .now) e in
     omega arith))
@@ -103,7 +102,7 @@ stale m g t d v e same old lm lt sm st other differ =
     (λ h.
     let p = broughtPage (d .proof) in
     let fresh : broughtTag (d .proof) ≡ tag (t .memory) g p =
-    equal-true (broughtTag (d .proof)) _ (h .1 .1 .1 .1 .1 .1 .0) ∙ ap (λ (i : ℕ). tag (t .memory) i p) same in
+    seventh-yes v t d h ∙ ap (λ (i : ℕ). tag (t .memory) i p) same in
     other (message-same m (t .memory) g p p lm lt sm st (differ (sym old ∙ fresh)))))
 
 -- ---- counts without a new salt
@@ -228,7 +227,7 @@ old-page-refused s c es d u v ec ed a stays same proof differ =
     let h = counted-run g (count (s .memory) g) (step s c .box) es stays (counted-update u s c ec r) in
     let unspent = unspent-before u s c ec r in
     stale (s .memory) g (run (step s c .box) es) d v ed same
-    (subst (λ (p : List ℕ). broughtTag p ≡ tag (s .memory) g (broughtPage p)) (sym proof) (matched u s c (updated-yes u s c ec r)))
+    (subst (λ (p : List ℕ). broughtTag p ≡ tag (s .memory) g (broughtPage p)) (sym proof) (seventh-yes u s c (all-seven u s c (updated-yes u s c ec r))))
     (passed (Change u) s c (updated-yes u s c ec r) .memory .size) (box-size (run (step s c .box) es) (h .valid))
     (omega arith) (h .small) (λ e. omega (arith, h .more))
     (subst (λ (p : List ℕ). TagsDiffer (s .memory) (run (step s c .box) es .memory) g (broughtPage p)) (sym proof) differ)
