@@ -27,14 +27,14 @@ use Rattle.memory.proofs.RangeLaw.{heldPage-bytes, withSalt-bytes, withCount-by
 use Rattle.machine.specs.declared.Kind.{Kind}
 use Rattle.machine.specs.declared.Kind.the-variants.{Read, Entry, Page, Change, Sync, Restart, NewSalt, Identify, Unknown}
 use Rattle.machine.specs.Command.{Box, Command, Outcome, kindOf, proofSize, broughtPage, answerSize}
-use Rattle.machine.specs.Tag.{tagged, currentPage}
+use Rattle.machine.specs.Tag.{currentPage}
 use Rattle.machine.specs.Question.{refusal}
 use Rattle.machine.specs.Effect.{Store, Effect, stored, effect, read, showEntry, entryAnswer, showPage, putHeld, evict, putContent, changedPage, changedMemory, change, sync, restarted, restart, salted, newSalt, identifySize, identify}
 use Rattle.machine.specs.Step.{step, timed, done}
 use Rattle.machine.specs.Claims.{ByteBox, ByteCommand, Stored}
 use Rattle.machine.proofs.CaseLaw.{same-or-not}
 use Rattle.machine.proofs.QuestionLaw.{all-yes}
-use Rattle.machine.proofs.StepLaw.{step-accepted, padded-length, padded-full, padded-are}
+use Rattle.machine.proofs.StepLaw.{step-accepted, padded-length, padded-are}
 use Rattle.machine.proofs.TagLaw.{tagged-length, tagged-are, brought-length, brought-are, current-length, current-are}
 use Rattle.machine.proofs.PassedLaw.{Passed, Changes, passed, passed-timed, accepted-changes}
 use Rattle.machine.proofs.EffectLaw.{EachStore, each-append, each-keeps, each-put, each-evicted, changed-length, restarted-none, restarted-held}
@@ -174,20 +174,6 @@ answer-length s c r =
     let q = passed-timed k s c (passed k s c (all-yes k s c refl r)) in
     ap (λ (o : Outcome). length (o .answer)) (step-accepted k s c refl r)
     ∙ padded-length (effect k (timed s (c .now)) c .named) (named-short k (timed s (c .now)) c q (accepted-changes k s c refl r))
-
--- an update answers the page that it holds, with the new tag
-pub changed-answer : (u : Update) (s : Box) (c : Command) → kindOf c ≡ Change u → refusal s c ≡ 0
-    → step s c .answer ≡ tagged (step s c .box .memory) (groupOf (c .block)) (changedPage u c)
-unfolding done effect change
-changed-answer u s c e r =
-    let t = timed s (c .now) in
-    let g = groupOf (c .block) in
-    let m = changedMemory (t .memory) g (changedPage u c) in
-    let same = step-accepted (Change u) s c e r in
-    ap (λ (o : Outcome). o .answer) same
-    ∙ padded-full (tagged m g (changedPage u c))
-    (tagged-length m g (changedPage u c) (changed-length u c (accepted-changes (Change u) s c e r u refl .proof)))
-    ∙ ap (λ (o : Outcome). tagged (o .box .memory) g (changedPage u c)) (sym same)
 
 pub accepted-bytes : (s : Box) (c : Command) → refusal s c ≡ 0 → ByteBox s → ByteCommand c → Stored s c
 unfolding done timed

@@ -25,6 +25,7 @@ use Rattle.machine.specs.declared.Kind.the-variants.{Change}
 use Rattle.machine.specs.Command.{Box, Command, boxOf, proofSize, broughtPage}
 use Rattle.machine.specs.Question.{contentLength}
 use Rattle.machine.specs.Effect.{Store, Effect, store, stored, putHeld, evict, putContent, changedPage, changedMemory, change, restarted, salted}
+use Rattle.machine.specs.After.{HeldPageFirst}
 use Rattle.machine.proofs.CaseLaw.{same-or-not}
 use Rattle.machine.proofs.TagLaw.{brought-length}
 
@@ -247,10 +248,8 @@ content-whole (Increment value) groups a content l h = tt
 -- ---- an update's stores
 
 -- where another group is held, its page goes first
-pub held-first : (s : Box) (c : Command) (lock : ℕ) → (held (s .memory) ≡ none → ⊥) → (held (s .memory) ≡ groupOf (c .block) → ⊥)
-    → change (Write lock) s c .stores
-    ≡ store (pageBlock (held (s .memory))) (heldPage (s .memory)) ∷ store (physical (c .block)) (c .content) ∷ []
-unfolding change putContent
+pub held-first : HeldPageFirst
+unfolding HeldPageFirst change putContent
 held-first s c lock n other =
     ap (λ (xs : List Store). xs ++ (store (physical (c .block)) (c .content) ∷ []))
     (evict-other (s .memory) (groupOf (c .block)) other ∙ put-some (s .memory) n)

@@ -11,6 +11,7 @@ pub mod BytesLaw
 pub mod ChangeLaw
 pub mod TimedLaw
 pub mod AfterLaw
+pub mod AnswerLaw
 pub mod FormatLaw
 pub mod ShortcutLaw
 pub mod EdgeLaw

@@ -42,7 +42,7 @@ use Rattle.machine.proofs.TagLaw.{tagged-page, tagged-tag, brought-leng
 use Rattle.machine.proofs.PassedLaw.{passed, changes, changed-group}
 use Rattle.machine.proofs.EffectLaw.{changed-length, count-changed, count-unchanged}
 use Rattle.machine.proofs.ValidBoxLaw.{accepted-valid}
-use Rattle.machine.proofs.BytesLaw.{changed-answer}
+use Rattle.machine.proofs.AnswerLaw.{changed-answer}
 use Rattle.machine.proofs.AfterLaw.{accepted-after, own-page, own-count, own-held, lost-count}
 
 -- ---- f = 1 before the expiry

@@ -13,7 +13,7 @@ use Rattle.machine.specs.Command.{Box, Command, kindOf}
 use Rattle.machine.specs.Question.{refusal, questions}
 use Rattle.machine.specs.Step.{step}
 use Rattle.machine.specs.Claims.{PapersSizes, IsFirstNo, PassesIfAllYes, KindsAreOneToTen, NumberIsFirstNo, RefusalAltersNothing, AcceptedLeavesValid, StaysValid, InvalidRefuses, ByteBox, StepKeepsBytes, SameLengths, StepKeepsLengths, FormattingFormats}
-use Rattle.machine.specs.After.{AcceptedDoes, HeldPageFirst}
+use Rattle.machine.specs.After.{AcceptedDoes, HeldPageFirst, AnswersServe}
 use Rattle.machine.specs.Protection.{Demand3, ReadsAlike}
 use Rattle.machine.specs.Shortcuts.{Shortcuts}
 use Rattle.machine.specs.EdgeValues.{EdgeValues}
@@ -28,6 +28,7 @@ use Rattle.machine.proofs.EffectLaw.{held-first}
 use Rattle.machine.proofs.ValidBoxLaw.{accepted-valid, run-valid}
 use Rattle.machine.proofs.BytesLaw.{answer-length, accepted-bytes}
 use Rattle.machine.proofs.AfterLaw.{accepted-after}
+use Rattle.machine.proofs.AnswerLaw.{answer-serves}
 use Rattle.machine.proofs.FormatLaw as format
 use Rattle.machine.proofs.ShortcutLaw as shortcut
 use Rattle.machine.proofs.EdgeLaw as edge
@@ -124,8 +125,11 @@ pub accepted-does : AcceptedDoes
 unfolding AcceptedDoes
 accepted-does s c a = accepted-after s c (accepts s c a)
 
+pub answers-serve : AnswersServe
+unfolding AnswersServe
+answers-serve s c a = answer-serves s c (accepts s c a)
+
 pub held-page-first : HeldPageFirst
-unfolding HeldPageFirst
 held-page-first = held-first
 
 -- ---- specs/Shortcuts.antt and specs/EdgeValues.antt

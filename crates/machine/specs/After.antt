@@ -5,6 +5,7 @@ use mathlib.Core.Bool.{true, false}
 use mathlib.Core.List.{List, [], _∷_}
 use Prim.Native.Nat.{ℕ, _+_, _<_}
 use lib.Dec.{eqb}
+use Rattle.lockpage.specs.declared.Update.{Update}
 use Rattle.lockpage.specs.declared.Update.the-variants.{Write, Unfreeze, Increment}
 use Rattle.addressing.specs.Map.{groupOf, physical, pageBlock}
 use Rattle.disk.specs.Disk.{block}
@@ -12,8 +13,9 @@ use Rattle.memory.specs.Memory.{salt, count, lastTime, groups, held, none, held
 use Rattle.memory.specs.Claims.{changed}
 use Rattle.machine.specs.declared.Kind.{Kind}
 use Rattle.machine.specs.declared.Kind.the-variants.{Read, Entry, Page, Change, Sync, Restart, NewSalt, Identify, Unknown}
-use Rattle.machine.specs.Command.{Box, Command, kindOf}
+use Rattle.machine.specs.Command.{Box, Command, kindOf, broughtPage}
 use Rattle.machine.specs.Tag.{currentPage}
+use Rattle.machine.specs.Question.{question7, HasYes}
 use Rattle.machine.specs.Effect.{store, change, changedPage}
 use Rattle.machine.specs.Step.{step}
 use Rattle.machine.specs.Claims.{Accepted}
@@ -97,3 +99,18 @@ unfoldable pub HeldPageFirst : Type 0
 HeldPageFirst = (s : Box) (c : Command) (lock : ℕ) → (held (s .memory) ≡ none → ⊥) → (held (s .memory) ≡ groupOf (c .block) → ⊥)
     → change (Write lock) s c .stores
     ≡ store (pageBlock (held (s .memory))) (heldPage (s .memory)) ∷ store (physical (c .block)) (c .content) ∷ []
+
+-- ---- what kinds 3 to 6 answer serves the next update
+
+-- the proof brings the current page of group g, and any update of that group gets yes to question 7 with it
+pub record Serves (t : Box) (g : ℕ) (proof : List ℕ) : Type 0 where
+  pub page : broughtPage proof ≡ currentPage t g
+  pub matches : (u : Update) → HasYes (question7 (Change u) (t .memory) g proof)
+
+-- "its current page and tag"; "that page with its new tag": an update that brings them next matches, and its page is not forged
+pub record AnswerServes (s : Box) (c : Command) : Type 0 where
+  pub shown : kindOf c ≡ Page → Serves (step s c .box) (c .block) (step s c .answer)
+  pub changed-page : (u : Update) → kindOf c ≡ Change u → Serves (step s c .box) (groupOf (c .block)) (step s c .answer)
+
+unfoldable pub AnswersServe : Type 0
+AnswersServe = (s : Box) (c : Command) → Accepted s c → AnswerServes s c
