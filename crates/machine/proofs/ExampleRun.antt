@@ -20,13 +20,16 @@ use Rattle.lockpage.specs.Page.{entryAt, blankEntry}
 use Rattle.addressing.specs.Map.{diskSize, dataBlocks, groupOf, placeOf}
 use Rattle.memory.specs.Layout.{memorySize, saltSize}
 use Rattle.memory.specs.Memory.{none}
+use Rattle.machine.specs.declared.Kind.the-variants.{Sync, Restart}
 use Rattle.machine.specs.Command.{Box, boxOf, kindNumbered, answerSize}
 use Rattle.machine.specs.Tag.{currentPage}
 use Rattle.machine.specs.Question.{refusal}
 use Rattle.machine.specs.Format.{formatQuestions, format}
+use Rattle.machine.specs.Run.{Throughout}
 use Rattle.machine.specs.Claims.{ByteBox, Formats}
-use Rattle.machine.specs.Example.{formattedBox, writing, written, syncing, start, unfreezing, unfrozen, restarting, restarted, unfreezingAgain, counting, overwriting, PremisesMet}
-use Rattle.machine.proofs.QuestionLaw.{yes-accepted, no-seventh}
+use Rattle.machine.specs.Protection.{Unforged}
+use Rattle.machine.specs.Example.{IsAccepted, events, formattedBox, writing, written, syncing, start, unfreezing, unfrozen, restarting, restarted, unfreezingAgain, counting, overwriting, PremisesMet}
+use Rattle.machine.proofs.QuestionLaw.{asks, yes-accepted, no-seventh}
 use Rattle.machine.proofs.StepLaw.{step-number}
 use Rattle.machine.proofs.TagLaw.{tagged-are, current-other, current-are}
 use Rattle.machine.proofs.BytesLaw.{accepted-bytes}
@@ -159,30 +162,45 @@ start-bytes =
     (record { content = below-none 256 (lit< tt); proof = below-none 256 (lit< tt); answer = repeated-below 256 answerSize 0 (lit< tt) })
     .box
 
+unforged-events : Throughout Unforged start events
+unfolding unfrozen restarted counting kindNumbered asks
+unforged-events = (
+  not-forged 1000 1 none (entry 500 2000) (entry 500 2000) start known-start 5 1200 0 [],
+  (
+    λ y. absurd (no-seventh Restart unfrozen restarting refl refl y),
+    (
+      not-forged 1300 3 none (entry 500 2000) (entry 500 2000) restarted known-restarted 5 1400 0 [],
+      (not-forged 1400 4 0 (entry 1900 2001) (entry 500 2000) counting known-counting 4 1900 0 (repeated blockSize 2), tt),
+    ),
+  ),
+)
+
+accepted-events : Throughout IsAccepted start events
+unfolding unfrozen restarted counting
+accepted-events = (
+  step-number start unfreezing ∙ unfreezing-served,
+  (
+    step-number unfrozen restarting ∙ restarting-served,
+    (step-number restarted unfreezingAgain ∙ unfreezing-again-served, (step-number counting overwriting ∙ overwriting-served, tt)),
+  ),
+)
+
 pub premises-met : PremisesMet
-unfolding unfrozen restarted counting groupOf placeOf kindNumbered
+unfolding written start unfrozen restarted counting groupOf placeOf kindNumbered asks
 premises-met =
     record {
+      begins-bytes = formatted-bytes .disk;
+      begins-none-held = known-formatted .held-is;
+      all-unforged = (
+        not-forged 0 0 none blankEntry blankEntry formattedBox known-formatted 4 1000 500 (repeated blockSize 1),
+        (λ y. absurd (no-seventh Sync written syncing refl refl y), unforged-events),
+      );
+      all-accepted =
+          (step-number formattedBox writing ∙ writing-served, (step-number written syncing ∙ syncing-served, accepted-events));
       bytes = start-bytes .disk;
       none-held = known-start .held-is;
-      unforged = (
-        not-forged 1000 1 none (entry 500 2000) (entry 500 2000) start known-start 5 1200 0 [],
-        (
-          (λ y. absurd (no-seventh unfrozen restarting refl y)),
-          (
-            not-forged 1300 3 none (entry 500 2000) (entry 500 2000) restarted known-restarted 5 1400 0 [],
-            (not-forged 1400 4 0 (entry 1900 2001) (entry 500 2000) counting known-counting 4 1900 0 (repeated blockSize 2), tt),
-          ),
-        ),
-      );
+      unforged = unforged-events;
       time = known-start .last;
       frozen = known-start .on-disk;
-      accepted = (
-        step-number start unfreezing ∙ unfreezing-served,
-        (
-          step-number unfrozen restarting ∙ restarting-served,
-          (step-number restarted unfreezingAgain ∙ unfreezing-again-served, (step-number counting overwriting ∙ overwriting-served, tt)),
-        ),
-      );
       overwritten = accepted-after counting overwriting overwriting-served .content 0;
     }

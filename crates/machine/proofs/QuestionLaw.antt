@@ -85,7 +85,7 @@ stops-within n (Put k false ∷ qs) later h f = (
 )
 
 -- whether a question of number n is put
-asks : ℕ → List Question → Bool
+unfoldable pub asks : ℕ → List Question → Bool
 asks n [] = false
 asks n (NotPut ∷ qs) = asks n qs
 asks n (Put k answer ∷ qs) = eqb k n || asks n qs
@@ -202,11 +202,11 @@ pub nine-seven : (u : Update) (s : Box) (c : Command) → AllYes (toNinth u s c)
 nine-seven u s c h =
     yes-front (toSeventh u s c) (question8 (Change u) (s .memory) (groupOf (c .block)) ∷ question9 (Change u) (c .now) (broughtEntry c) ∷ []) h
 
--- question 7 is not put to a restart
-pub no-seventh : (s : Box) (c : Command) → kindOf c ≡ Restart → GetsYes 7 (questions s c) → ⊥
-unfolding questions asks
-no-seventh s c e h =
-    false≢true (asked 7 (questionsTo Restart s c) (subst (λ (k : Kind). GetsYes 7 (questionsTo k s c)) e h))
+-- a kind that question 7 is not put to does not get yes to it
+pub no-seventh : (k : Kind) (s : Box) (c : Command) → asks 7 (questionsTo k s c) ≡ false → kindOf c ≡ k → GetsYes 7 (questions s c) → ⊥
+unfolding questions
+no-seventh k s c n e h =
+    false≢true (sym n ∙ asked 7 (questionsTo k s c) (subst (λ (i : Kind). GetsYes 7 (questionsTo i s c)) e h))
 
 -- what the last of them says
 pub seventh-yes : (u : Update) (s : Box) (c : Command) → AllYes (toSeventh u s c)

@@ -1,5 +1,6 @@
--- The premises of demand 3 can be met: a start and a run that unfreezes a block, restarts, unfreezes it again and overwrites it, each
--- command accepted and no page forged. The claim is a type; its proof is proofs/Theorems.antt, premises-met.
+-- The premises of demand 3 can be met: a run that writes a block, syncs, unfreezes it, restarts, unfreezes it again and overwrites it,
+-- each command accepted and no page forged, and in it a start from which the block is protected. The claim is a type; its proof is
+-- proofs/Theorems.antt, premises-met.
 use mathlib.Core.Path.{_≡_}
 use mathlib.Core.List.{List, [], _∷_}
 use Prim.Native.Nat.{ℕ}
@@ -92,11 +93,15 @@ abbrev pub IsAccepted : Box → Event → Type 0
 IsAccepted s (Given c) = Accepted s c
 
 pub record PremisesMet : Type 0 where
+  -- the whole run, from the formatted box on
+  pub begins-bytes : AreBytes (formattedBox .disk)
+  pub begins-none-held : held (formattedBox .memory) ≡ none
+  pub all-unforged : Throughout Unforged formattedBox (Given writing ∷ Given syncing ∷ events)
+  pub all-accepted : Throughout IsAccepted formattedBox (Given writing ∷ Given syncing ∷ events)
+  -- and from the start on: T is 1000, block 0 is frozen under lock 500, and the last command overwrites it
   pub bytes : AreBytes (start .disk)
   pub none-held : held (start .memory) ≡ none
   pub unforged : Throughout Unforged start events
-  -- T is 1000, block 0 is frozen under lock 500, every command of the run is accepted, and the last overwrites the block
   pub time : lastTime (start .memory) ≡ 1000
   pub frozen : startEntry start 0 ≡ entry 500 2000
-  pub accepted : Throughout IsAccepted start events
   pub overwritten : block (run start events .disk) (physical 0) ≡ repeated blockSize 2
