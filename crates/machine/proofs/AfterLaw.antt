@@ -23,7 +23,7 @@ use Rattle.machine.proofs.CaseLaw.{same-or-not}
 use Rattle.machine.proofs.QuestionLaw.{all-yes}
 use Rattle.machine.proofs.StepLaw.{step-accepted}
 use Rattle.machine.proofs.TagLaw.{current-other}
-use Rattle.machine.proofs.PassedLaw.{Passed, Changes, passed, changes, passed-timed, changed-group, accepted-changes, timed-reads}
+use Rattle.machine.proofs.PassedLaw.{new-salt-other, Passed, Changes, passed, changes, passed-timed, changed-group, accepted-changes, timed-reads}
 use Rattle.machine.proofs.EffectLaw.{left, count-changed, untouched, count-unchanged, restarted-none, restarted-held-reads, restarted-salt, restarted-time, restarted-groups, restarted-drops, salted-reads}
 use Rattle.machine.proofs.ChangeLaw.{change-on-disk, not-none, put-current, put-elsewhere, change-reads, change-page, change-content}
 use Rattle.machine.proofs.TimedLaw.{in-memory, salt-timed, counts-timed, held-timed, page-timed}
@@ -198,3 +198,8 @@ lost-count s c e r h =
     accepted-after s c r .counts g h
     ∙ ap (λ (k : Kind). countAfter k (s .memory) c g) e
     ∙ count-changed (count (s .memory)) g (count (s .memory) g + 1)
+
+pub new-salt-differs : (s : Box) (c : Command) → kindOf c ≡ NewSalt → refusal s c ≡ 0 → salt (step s c .box .memory) ≡ salt (s .memory) → ⊥
+new-salt-differs s c e r same =
+    new-salt-other s c (all-yes NewSalt s c e r)
+    (ap (λ (k : Kind). saltAfter k (s .memory) c) (sym e) ∙ sym (accepted-after s c r .new-salt) ∙ same)

@@ -125,3 +125,7 @@ unfreeze-kind n value e = ap (λ (k : ℕ). getD (Unknown ∷ kinds value) k Unk
 pub restart-kind : (n value : ℕ) → n ≡ 8 → kindNumbered n value ≡ Restart
 unfolding kindNumbered
 restart-kind n value e = ap (λ (k : ℕ). getD (Unknown ∷ kinds value) k Unknown) e
+
+pub new-salt-kind : (n value : ℕ) → n ≡ 9 → kindNumbered n value ≡ NewSalt
+unfolding kindNumbered
+new-salt-kind n value e = ap (λ (k : ℕ). getD (Unknown ∷ kinds value) k Unknown) e

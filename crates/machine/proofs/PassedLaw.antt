@@ -1,12 +1,14 @@
 -- What the questions' yes says of an accepted command, as facts. Assumes nothing.
 use mathlib.Core.Path.{_≡_, ap, sym, subst, _∙_}
-use mathlib.Core.Bool.{true, _&&_}
+use mathlib.Core.Bool.{false, not, false≢true, true, _&&_}
 use mathlib.Mathlib.Data.Bool.Basic.{and-elim-left, and-elim-right}
 use Prim.Native.Nat.{ℕ, _≤_, _<_}
 use native.Mathlib.Omega.{arith}
 use borrow.Author.Tests.{eqb-true, leb-true, ltb-true}
 use lib.Dec.{eqb, leb}
 use lib.ListN.{length}
+use Rattle.octets.specs.Part.{equal}
+use Rattle.octets.proofs.EqualLaw.{equal-yes}
 use Rattle.lockpage.specs.declared.Update.{Update}
 use Rattle.lockpage.specs.State.{state}
 use Rattle.lockpage.specs.Update.{latestTime, updated, allowed, withinLimit}
@@ -18,7 +20,7 @@ use Rattle.memory.proofs.FieldLaw.{time-set}
 use Rattle.validity.specs.Valid.{countLimit}
 use Rattle.validity.proofs.ValidLaw.{Valid, facts, valid-time}
 use Rattle.machine.specs.declared.Kind.{Kind}
-use Rattle.machine.specs.declared.Kind.the-variants.{Change}
+use Rattle.machine.specs.declared.Kind.the-variants.{Change, NewSalt}
 use Rattle.machine.specs.Command.{Box, Command, kindOf, proofSize, broughtEntry, answerSize}
 use Rattle.machine.specs.Question.{question5, contentLength, proofLength, questionsTo, refusal, HasYes, AllYes}
 use Rattle.machine.specs.Step.{timed}
@@ -80,6 +82,12 @@ changes u s c h =
       may = h .1 .1 .1 .1 .1 .1 .1 .1 .0;
       within = h .1 .1 .1 .1 .1 .1 .1 .1 .1 .0;
     }
+
+-- and where it is a new salt
+pub new-salt-other : (s : Box) (c : Command) → AllYes (questionsTo NewSalt s c) → c .content ≡ salt (s .memory) → ⊥
+new-salt-other s c h e =
+    let same : not (equal (c .content) (salt (s .memory))) ≡ false = ap not (equal-yes (c .content) (salt (s .memory)) e) in
+    false≢true (sym same ∙ h .1 .1 .1 .1 .1 .1 .1 .1 .1 .1 .0)
 
 -- ---- once the last time is set
 

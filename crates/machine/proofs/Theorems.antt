@@ -13,13 +13,13 @@ use Rattle.machine.specs.Command.{Box, Command, kindOf}
 use Rattle.machine.specs.Question.{refusal, questions}
 use Rattle.machine.specs.Step.{step}
 use Rattle.machine.specs.Claims.{PapersSizes, IsFirstNo, PassesIfAllYes, KindsAreOneToTen, NumberIsFirstNo, RefusalAltersNothing, AcceptedLeavesValid, StaysValid, InvalidRefuses, ByteBox, StepKeepsBytes, SameLengths, StepKeepsLengths, FormattingFormats}
-use Rattle.machine.specs.After.{AcceptedDoes, HeldPageFirst, AnswersServe}
+use Rattle.machine.specs.After.{AcceptedDoes, NewSaltDiffers, HeldPageFirst, AnswersServe}
 use Rattle.machine.specs.Protection.{Demand3, ReadsAlike}
 use Rattle.machine.specs.Shortcuts.{Shortcuts}
 use Rattle.machine.specs.EdgeValues.{EdgeValues}
 use Rattle.machine.specs.Example.{PremisesMet}
 use Rattle.machine.proofs.CaseLaw.{same-or-not}
-use Rattle.machine.proofs.KindLaw.{one-to-ten}
+use Rattle.machine.proofs.KindLaw.{one-to-ten, new-salt-kind}
 use Rattle.machine.proofs.QuestionLaw.{refused-by-second, yes-accepted, all-yes, first-no, first-no-only}
 use Rattle.machine.proofs.StepLaw.{refused-by, step-number, accepts, refused-unaltered}
 use Rattle.machine.proofs.TagLaw.{message-length}
@@ -28,6 +28,7 @@ use Rattle.machine.proofs.EffectLaw.{held-first}
 use Rattle.machine.proofs.ValidBoxLaw.{accepted-valid, run-valid}
 use Rattle.machine.proofs.BytesLaw.{answer-length, accepted-bytes}
 use Rattle.machine.proofs.AfterLaw.{accepted-after}
+use Rattle.machine.proofs.AfterLaw as after
 use Rattle.machine.proofs.AnswerLaw.{answer-serves}
 use Rattle.machine.proofs.FormatLaw as format
 use Rattle.machine.proofs.ShortcutLaw as shortcut
@@ -124,6 +125,10 @@ formatting-formats = format.formats
 pub accepted-does : AcceptedDoes
 unfolding AcceptedDoes
 accepted-does s c a = accepted-after s c (accepts s c a)
+
+pub new-salt-differs : NewSaltDiffers
+unfolding NewSaltDiffers
+new-salt-differs s c a k = after.new-salt-differs s c (new-salt-kind (c .kind) (c .value) k) (accepts s c a)
 
 pub answers-serve : AnswersServe
 unfolding AnswersServe

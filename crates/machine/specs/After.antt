@@ -94,6 +94,10 @@ pub record After (s : Box) (c : Command) : Type 0 where
 unfoldable pub AcceptedDoes : Type 0
 AcceptedDoes = (s : Box) (c : Command) → Accepted s c → After s c
 
+-- "Does the new salt differ from the present one?": an accepted one leaves another salt
+unfoldable pub NewSaltDiffers : Type 0
+NewSaltDiffers = (s : Box) (c : Command) → Accepted s c → c .kind ≡ 9 → salt (step s c .box .memory) ≡ salt (s .memory) → ⊥
+
 -- document 02, Q-9, on the order of the stores: "the held page (in kinds 4 to 6 only another group's), the data"
 unfoldable pub HeldPageFirst : Type 0
 HeldPageFirst = (s : Box) (c : Command) (lock : ℕ) → (held (s .memory) ≡ none → ⊥) → (held (s .memory) ≡ groupOf (c .block) → ⊥)
