@@ -1,6 +1,6 @@
 -- Laws of the address map, by arithmetic: what lies below what, what is apart, offsets within a group. Assumes nothing.
 use mathlib.Core.Path.{_≡_, ap, sym, _∙_}
-use Prim.Native.Nat.{ℕ, _+_, _*_, _/_, _≤_, _<_}
+use Prim.Native.Nat.{ℕ, _+_, _*_, _/_, _^_, _≤_, _<_}
 use native.Mathlib.Omega.{arith}
 use Rattle.lockpage.specs.Size.{blockSize}
 use Rattle.addressing.specs.Map.{groupBlocks, groupSize, diskSize, dataBlocks, groupOf, placeOf, pagePlace, physical, pageBlock, groupStart, blockStart}
@@ -31,6 +31,11 @@ placeOf-in a place e = omega (arith, placeOf-below a)
 pub pageBlock-place : (g : ℕ) → pageBlock g ≡ groupBlocks * g + pagePlace
 unfolding pageBlock
 pageBlock-place g = omega arith
+
+-- the number of data blocks has four bytes
+pub dataBlocks-small : (groups : ℕ) → groups < 256 → dataBlocks groups < 2 ^ 32
+unfolding dataBlocks
+dataBlocks-small groups h = omega arith
 
 pub physical-below : (groups a : ℕ) → a < dataBlocks groups → physical a < groupBlocks * groups
 unfolding physical dataBlocks

@@ -9,6 +9,8 @@ use lib.Seq.{length-take-le}
 use Rattle.octets.specs.Part.{part, replaced}
 use Rattle.octets.proofs.ReplacedLaw.{replaced-all, replaced-lent, part-copied, all-copied}
 use Rattle.lockpage.specs.Size.{blockSize}
+use Rattle.lockpage.specs.declared.Entry.{Entry}
+use Rattle.lockpage.specs.Page.{entryAt}
 use Rattle.addressing.specs.Map.{groupBlocks, groupSize, groupStart, blockStart}
 use Rattle.disk.specs.Disk.{block, withBlock, stretch, withStretch, HasGroup}
 use Rattle.addressing.proofs.MapLaw.{blockStart-place}
@@ -24,6 +26,15 @@ block-copied l room r p from s h ef er =
 -- the end of a part less its start
 span : (from n : ℕ) → from + n - from ≡ n
 span from n = omega arith
+
+-- a block's part, cut out
+pub block-cut : (l : List ℕ) (p from : ℕ) → from ≡ blockStart p → take (from + blockSize - from) (drop from l) ≡ block l p
+unfolding block part
+block-cut l p from ef = ap₂ (λ (k at : ℕ). take k (drop at l)) (span from blockSize) ef
+
+-- an entry of a page that was cut out
+pub entry-cut : (p q : List ℕ) (i : ℕ) (r : Entry) → p ≡ q → r ≡ entryAt p i → r ≡ entryAt q i
+entry-cut p q i r e h = h ∙ ap (λ (x : List ℕ). entryAt x i) e
 
 -- a block whose part was lent and came back as r
 pub block-lent : (l r : List ℕ) (p from : ℕ) → length r ≡ blockSize → from ≡ blockStart p

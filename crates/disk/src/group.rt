@@ -2,9 +2,11 @@
 ghost use mathlib.Core.Path.{_≡_};
 ghost use Prim.Native.Nat.{_<_};
 ghost use lib.ListN.{length};
-ghost use Rattle.lockpage.specs.Size.{blockSize};
+ghost use Rattle.lockpage.specs.Size.{blockSize, entriesPerPage};
+ghost use Rattle.lockpage.specs.Page.{entryAt};
 ghost use Rattle.addressing.specs.Map.{groupBlocks, groupSize, pagePlace};
 ghost use Rattle.disk.specs.Disk.{block, withBlock};
+use lockpage::Entry;
 
 // Copies the block at a place into out.
 pub fn read_block(group: &[u8], place: usize, out: &mut [u8])
@@ -39,4 +41,14 @@ pub fn store_page(group: &mut [u8], page: &[u8])
     ensures { λ _. ⌜ now (group .exit) ≡ withBlock (now (group .entry)) pagePlace (now (page .entry)) ⌝ }
 {
     store_block(group, addressing::PAGE_PLACE, page);
+}
+
+// Entry i of the page.
+pub fn load_entry(group: &[u8], i: usize) -> Entry
+    requires { ⌜ (length (now group) ≡ groupSize) × (i < entriesPerPage) ⌝ }
+    ensures { λ r. ⌜ r ≡ entryAt (block (now (group .entry)) pagePlace) i ⌝ }
+{
+    let from = addressing::block_start(addressing::PAGE_PLACE);
+    let to = from + addressing::BLOCK_SIZE;
+    lockpage::entries::load_entry(&group[from..to], i)
 }

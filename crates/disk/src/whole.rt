@@ -1,9 +1,12 @@
 // Data blocks and pages on the whole disk: a group's stretch is cut out and handed to the group's functions.
 ghost use mathlib.Core.Path.{_≡_};
+ghost use Prim.Native.Nat.{_<_};
 ghost use lib.ListN.{length};
-ghost use Rattle.lockpage.specs.Size.{blockSize};
+ghost use Rattle.lockpage.specs.Size.{blockSize, entriesPerPage};
+ghost use Rattle.lockpage.specs.Page.{entryAt};
 ghost use Rattle.addressing.specs.Map.{groupOf, physical, pageBlock};
 ghost use Rattle.disk.specs.Disk.{block as blockAt, withBlock, stretch as stretchOf, HasGroup};
+use lockpage::Entry;
 
 // A group's stretch of the disk, to be read.
 pub fn stretch(disk: &[u8], group: u32) -> &[u8]
@@ -51,4 +54,12 @@ pub fn store_page(disk: &mut [u8], group: u32, page: &[u8])
     let from = addressing::group_start(group);
     let to = from + addressing::GROUP_SIZE;
     crate::group::store_page(&mut disk[from..to], page);
+}
+
+// Entry i of a group's page.
+pub fn load_entry(disk: &[u8], group: u32, i: usize) -> Entry
+    requires { ⌜ HasGroup (now disk) group × (i < entriesPerPage) ⌝ }
+    ensures { λ r. ⌜ r ≡ entryAt (blockAt (now (disk .entry)) (pageBlock group)) i ⌝ }
+{
+    crate::group::load_entry(stretch(disk, group), i)
 }

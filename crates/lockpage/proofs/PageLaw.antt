@@ -125,6 +125,11 @@ entries-at (suc n) e (suc i) h =
     ∙ part-right (entryBytes e) (entries n e) (entrySize * i) entrySize
     ∙ entries-at n e i (omega arith)
 
+-- the first entry of a list
+pub withEntry-first : (l : List ℕ) (e : Entry) → withEntry l 0 e ≡ replaced l 0 (entryBytes e)
+unfolding withEntry
+withEntry-first l e = refl
+
 pub blankPage-length : length blankPage ≡ pageSize
 unfolding blankPage
 blankPage-length = entries-length entriesPerPage blankEntry

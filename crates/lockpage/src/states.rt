@@ -9,6 +9,8 @@ ghost use Rattle.lockpage.specs.State as S;
 use crate::Entry;
 use crate::State;
 
+pub const TIME_LEFT_SIZE: usize = 8;
+
 // Whether the stamp says that the word is a lock.
 pub fn is_frozen(stamp: u32) -> bool
     ensures { λ r. ⌜ r ≡ isFrozen stamp ⌝ }

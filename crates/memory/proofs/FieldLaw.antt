@@ -1,6 +1,6 @@
 -- Laws of the fields of the memory: what each reads after each is replaced. A change lies in the front, below the last time, or in the
 -- back: what lies in the other half is kept as a whole. Assumes nothing.
-use mathlib.Core.Path.{_≡_, refl, ap, _∙_}
+use mathlib.Core.Path.{_≡_, refl, ap, sym, _∙_}
 use mathlib.Core.Bool.{Bool, true, false}
 use mathlib.Core.Logic.{_⊎_, inl, inr}
 use mathlib.Core.List.{List}
@@ -14,7 +14,7 @@ use Rattle.octets.specs.Number.{number, bytes, numberAt, withNumber}
 use Rattle.octets.proofs.OrderLaw.{apart}
 use Rattle.octets.proofs.PartLaw.{part-length}
 use Rattle.octets.proofs.RepeatedLaw.{repeated-length, repeated-part}
-use Rattle.octets.proofs.ReplacedLaw.{replaced-length, part-same, part-other, part-within}
+use Rattle.octets.proofs.ReplacedLaw.{replaced-length, part-same, part-other, part-within, replaced-again}
 use Rattle.octets.proofs.NumberLaw.{bytes-length, numberAt-same, numberAt-other, numberAt-zeros}
 use Rattle.lockpage.specs.Size.{pageSize}
 use Rattle.memory.specs.Layout.{memorySize, saltStart, saltSize, countsStart, countSize, mostGroups, countStart, timeStart, timeSize, groupsStart, heldStart, byteSize, reservedStart, reservedSize, pageStart}
@@ -279,3 +279,9 @@ pub page-dropped : (m : List ℕ) → length m ≡ memorySize
     → Reads (holdingNone m) (salt m) (count m) (lastTime m) (groups m) none (repeated pageSize 0)
 unfolding holdingNone
 page-dropped m size = page-held m size none (repeated pageSize 0) (omega arith) (repeated-length pageSize 0)
+
+-- another page in the held one's place
+pub holding-again : (m : List ℕ) → length m ≡ memorySize → (g : ℕ) (p q : List ℕ) → length p ≡ pageSize → length q ≡ pageSize
+    → withHeldPage (holding m g p) q ≡ holding m g q
+unfolding holding withHeldPage
+holding-again m l g p q lp lq = replaced-again (withHeld m g) pageStart p q (lp ∙ sym lq) (omega (arith, held-in m l g .size))

@@ -183,6 +183,10 @@ pub stored-one : (l : List ℕ) (at n : ℕ) → at + 1 ≤ length l → n < 256
 unfolding withNumber bytes
 stored-one l at n h s = ap (set l at) (sym (mod-eq-of-lt s)) ∙ replaced-sets l at (bytes 1 n) h
 
+pub withNumber-byte : (l : List ℕ) (at n : ℕ) → n < 256 → withNumber l at 1 n ≡ replaced l at (n ∷ [])
+unfolding withNumber bytes
+withNumber-byte l at n s = ap (λ (b : ℕ). replaced l at (b ∷ [])) (mod-eq-of-lt s)
+
 -- four bytes, read one by one
 pub number-of-four : (l : List ℕ) (at a b c d : ℕ) → at + 4 ≤ length l
     → a ≡ getD l at 0 → b ≡ getD l (at + 1) 0 → c ≡ getD l (at + 2) 0 → d ≡ getD l (at + 3) 0

@@ -4,7 +4,7 @@ use mathlib.Core.Path.{_≡_, refl, ap, ap₂, sym, _∙_}
 use mathlib.Core.Logic.{_⊎_, inl, inr}
 use mathlib.Core.List.{List, [], _++_, append-assoc, append-nil}
 use Prim.Native.Nat.{ℕ, _+_, _-_, _≤_, _<_}
-use native.Mathlib.Nat.{add-assoc, add-zero}
+use native.Mathlib.Nat.{add-assoc, add-zero, zero-add}
 use native.Mathlib.Numerals.{add-one}
 use native.Mathlib.Omega.{arith}
 use lib.ListN.{length, take, drop, getD, set, length-append, length-set, length-drop, take-append-drop, drop-of-length-le}
@@ -150,6 +150,24 @@ replaced-within l a k f new h e =
 -- a part copied into a room of its size
 pub part-copied : (l room r : List ℕ) (at n : ℕ) → length room ≡ n → at + n ≤ length l → r ≡ replaced room 0 (part l at n) → r ≡ part l at n
 part-copied l room r at n s h e = e ∙ replaced-all room (part l at n) (part-length l at n h ∙ sym s)
+
+-- a part that was lent and came back as new
+pub lent-filled : (l new r : List ℕ) (a k : ℕ) → length new ≡ k → r ≡ new → take a l ++ (r ++ drop k (drop a l)) ≡ replaced l a new
+lent-filled l new r a k s e = replaced-lent l a k r (ap length e ∙ s) ∙ ap (replaced l a) e
+
+-- what comes next, where the front is replaced already
+pub replaced-next : (l prev front new r : List ℕ) (at : ℕ) → prev ≡ replaced l 0 front → at ≡ length front → at + length new ≤ length l
+    → r ≡ replaced prev at new → r ≡ replaced l 0 (front ++ new)
+replaced-next l prev front new r at ep ea h er =
+    er
+    ∙ ap₂ (λ (x : List ℕ) (k : ℕ). replaced x k new) ep (ea ∙ sym (zero-add (length front)))
+    ∙ replaced-append l 0 front new (omega arith)
+
+-- the end
+pub replaced-end : (l : List ℕ) (at : ℕ) (new : List ℕ) → at + length new ≡ length l → replaced l at new ≡ part l 0 at ++ new
+unfolding replaced part
+replaced-end l at new e =
+    ap (λ (x : List ℕ). take at l ++ (new ++ x)) (drop-of-length-le l {i = at + length new} (omega arith)) ∙ ap (λ (x : List ℕ). take at l ++ x) (append-nil new)
 
 -- all of a list copied
 pub all-copied : (l new r : List ℕ) (at n : ℕ) → length new ≡ n → r ≡ replaced l at (part new 0 n) → r ≡ replaced l at new

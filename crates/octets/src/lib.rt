@@ -1,7 +1,7 @@
 // Bytes and little-endian numbers on lent slices. The contracts cite specs/: a part of a list, a list
 // with a part replaced, the digits of a number base 256.
 ghost use mathlib.Core.Path.{_≡_};
-ghost use Prim.Native.Nat.{_+_, _≤_, _<_};
+ghost use Prim.Native.Nat.{_+_, _*_, _≤_, _<_};
 ghost use lib.ListN.{length};
 ghost use Rattle.octets.specs.Part.{part, replaced, repeated};
 ghost use Rattle.octets.specs.Part as P;
@@ -140,6 +140,20 @@ pub fn filled(s: &[u8], at: usize, n: usize, b: u8) -> bool
         i += 1;
     }
     differ == 0
+}
+
+// Whether the n words of four bytes from at on are all 0. All of them are looked at, so that the loop has one way out.
+pub fn zero_words(s: &[u8], at: usize, n: usize) -> bool
+    requires { ⌜ at + 4 * n ≤ length (now s) ⌝ }
+    ensures { λ r. ⌜ r ≡ P.equal (part (now (s .entry)) at (4 * n)) (repeated (4 * n) 0) ⌝ }
+{
+    let mut any: u32 = 0;
+    let mut i = 0;
+    while i < n {
+        any = any | load_u32(s, at + 4 * i);
+        i += 1;
+    }
+    any == 0
 }
 
 // Whether the two slices hold the same bytes. Where they are as long as each other all bytes are looked at, so

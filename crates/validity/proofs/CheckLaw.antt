@@ -1,10 +1,10 @@
 -- The check of validity as the code makes it: a clause that fails, and what is left to test once the others are passed.
 -- Assumes nothing.
-use mathlib.Core.Path.{_≡_, ap, sym, subst, _∙_}
+use mathlib.Core.Path.{_≡_, ap, ap₂, sym, _∙_}
 use mathlib.Core.Bool.{Bool, true, false, not, false≢true}
 use mathlib.Mathlib.Data.Bool.Basic.{eq-true-of-not-eq-false', eq-false-of-not-eq-true'}
 use mathlib.Core.List.{List}
-use Prim.Native.Nat.{ℕ, _-_, _≤_, _<_}
+use Prim.Native.Nat.{ℕ, _*_, _-_, _≤_, _<_}
 use native.Mathlib.Omega.{arith}
 use borrow.Author.Tests.{leb-true, le-leb}
 use lib.Dec.{leb}
@@ -25,16 +25,17 @@ not-equal r a b e n q = false≢true (sym (eq-false-of-not-eq-true' n) ∙ e ∙
 are-equal : (r : Bool) (a b : List ℕ) → r ≡ equal a b → not r ≡ false → a ≡ b
 are-equal r a b e n = equal-true a b (sym e ∙ eq-true-of-not-eq-false' n)
 
--- the counts that no group has, from place at on
-module _ (m : List ℕ) (r : Bool) (at : ℕ) (place : at ≡ countStart (groups m))
-    (e : r ≡ equal (part m at (timeStart - at)) (repeated (timeStart - at) 0)) where
+-- the counts that no group has, n words from place at on
+module _ (m : List ℕ) (r : Bool) (at n : ℕ) (place : at ≡ countStart (groups m)) (size : 4 * n ≡ timeStart - countStart (groups m))
+    (e : r ≡ equal (part m at (4 * n)) (repeated (4 * n) 0)) where
+  compared : r ≡ equal (part m (countStart (groups m)) (timeStart - countStart (groups m))) (repeated (timeStart - countStart (groups m)) 0)
+  compared = e ∙ ap₂ (λ (f k : ℕ). equal (part m f k) (repeated k 0)) place size
+
   pub counts-used : not r ≡ true → false ≡ valid m
-  counts-used n =
-      invalid m
-      (λ v. not-equal r _ _ e n (subst (λ (k : ℕ). part m k (timeStart - k) ≡ repeated (timeStart - k) 0) (sym place) (v .unused)))
+  counts-used t = invalid m (λ v. not-equal r _ _ compared t (v .unused))
 
   pub counts-unused : not r ≡ false → UnusedFrom m (groups m)
-  counts-unused n = subst (λ (k : ℕ). part m k (timeStart - k) ≡ repeated (timeStart - k) 0) place (are-equal r _ _ e n)
+  counts-unused t = are-equal r _ _ compared t
 
 -- the two bytes that are 0
 module _ (m : List ℕ) (r : Bool) (e : r ≡ equal (part m reservedStart reservedSize) (repeated reservedSize 0)) where

@@ -24,7 +24,7 @@ pub fn valid(memory: &[u8]) -> bool
         return false;
     }
     let unused = layout::count_start(groups);
-    if !octets::filled(memory, unused, layout::TIME_START - unused, 0) {
+    if !octets::zero_words(memory, unused, (layout::MOST_GROUPS - groups) as usize) {
         return false;
     }
     if !octets::filled(memory, layout::RESERVED_START, layout::RESERVED_SIZE, 0) {

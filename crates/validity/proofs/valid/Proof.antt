@@ -1,10 +1,10 @@
 -- `validity::valid` meets its contract, clause by clause. Assumes nothing.
 use borrow.Author.Needs.{needs}
 use mathlib.Core.List.{List}
-use Prim.Native.Nat.{ℕ}
+use Prim.Native.Nat.{ℕ, _*_, _-_}
 use mathlib.Core.Path.{_≡_, ap, sym, _∙_}
 use native.Mathlib.Omega.{arith}
-use Rattle.memory.specs.Layout.{countStart}
+use Rattle.memory.specs.Layout.{mostGroups, countStart, timeStart}
 use Rattle.memory.specs.Memory.{groups}
 use Rattle.validity.proofs.ValidLaw.{invalid}
 use Rattle.validity.proofs.CheckLaw.{Passed, counts-used, counts-unused, reserved-used, reserved-zero, held-out, held-uncounted, page-decides, count-decides}
@@ -21,8 +21,15 @@ groups-read c = c .before .before .before .before .before .groups .ensures
 unused-start : (c : tie.After-count-start) → c .count-start .result ≡ countStart (groups (bytes c))
 unused-start c = c .count-start .ensures ∙ ap (λ (g : ℕ). countStart g) (groups-read c)
 
+-- how many words they are
+unused-size : (c : tie.After-count-start)
+    → 4 * (mostGroups - c .before .before .before .before .before .groups .result) ≡ timeStart - countStart (groups (bytes c))
+unused-size c = omega (arith, groups-read c, c .before .before .before .if3 .left)
+
 unused : tie.Need-returns-5
-unused c = counts-used _ _ _ (unused-start (c .before .before)) (c .before .filled .ensures) (c .if5 .taken)
+unused c =
+    let placed = c .before .before in
+    counts-used _ _ _ _ (unused-start placed) (unused-size placed) (c .before .zero-words .ensures) (c .if5 .taken)
 
 -- the clauses on all but the held group, once they are passed
 passed : (c : tie.Else6) → Passed (bytes (c .before .before .before .before))
@@ -38,8 +45,8 @@ passed c =
       least = omega (arith, two .if2 .left, groups);
       most = omega (arith, three .if3 .left, groups);
       time = omega (arith, four .if4 .left, four .before .last-time .ensures);
-      unused = counts-unused _ _ _ (unused-start placed) (five .before .filled .ensures) (five .if5 .left);
-      reserved = reserved-zero _ _ (c .before .filled2 .ensures) (c .if6 .left);
+      unused = counts-unused _ _ _ _ (unused-start placed) (unused-size placed) (five .before .zero-words .ensures) (five .if5 .left);
+      reserved = reserved-zero _ _ (c .before .filled .ensures) (c .if6 .left);
     }
 
 page : tie.Need-returns-7
@@ -75,5 +82,5 @@ valid-spec =
     (λ c. invalid _ (λ v. omega (arith, c .if2 .taken, c .before .groups .ensures, v .least)))
     (λ c. invalid _ (λ v. omega (arith, c .if3 .taken, c .before .before .groups .ensures, v .most))) (λ c κs. search needs)
     (λ c. invalid _ (λ v. omega (arith, c .if4 .taken, c .before .last-time .ensures, v .time))) (λ c κs. search needs) (λ c. search needs)
-    (λ c κs. search needs) unused (λ c κs. search needs) (λ c. reserved-used _ _ (c .before .filled2 .ensures) (c .if6 .taken))
+    (λ c κs. search needs) unused (λ c κs. search needs) (λ c. reserved-used _ _ (c .before .filled .ensures) (c .if6 .taken))
     (λ c κs. search needs) (λ c. search needs) (λ c κs. search needs) page out (λ c κs. search needs) uncounted count)

@@ -1,0 +1,24 @@
+-- `disk::whole::load_entry` meets its contract, by the group's stretch. Assumes nothing.
+use borrow.Author.Needs.{needs}
+use mathlib.Core.Path.{refl}
+use native.Mathlib.Omega.{arith}
+use Rattle.addressing.specs.Map.{pagePlace}
+use Rattle.addressing.proofs.MapLaw.{pageBlock-place}
+use Rattle.disk.proofs.LentLaw.{cut-length, block-read, entry-cut}
+use Rattle.disk.proofs.whole.load_entry.Statement.{statement}
+use Rattle.disk.proofs.whole.load_entry.Tie as tie
+
+load-entry-requires : tie.Need-load-entry-requires
+load-entry-requires c κs =
+    let start = c .before .before in
+    (cut-length _ _ _ _ (start .pre .0) refl (c .stretch .ensures), search needs)
+
+returns : tie.Need-returns
+returns c =
+    let cut = c .before in
+    entry-cut _ _ _ _
+    (block-read _ _ _ _ (cut .before .before .pre .0) refl (cut .stretch .ensures) _ pagePlace _ (omega arith) (pageBlock-place _) refl)
+    (c .load-entry .ensures)
+
+pub load-entry-spec : {M : Type 1} → statement M
+load-entry-spec = tie.close (tie.spec (λ c κs. search needs) load-entry-requires returns)
