@@ -29,7 +29,7 @@ use Rattle.machine.specs.declared.Kind.the-variants.{Read, Entry, Page, 
 use Rattle.machine.specs.Command.{Box, Command, Outcome, kindOf, proofSize, broughtPage, answerSize}
 use Rattle.machine.specs.Tag.{currentPage}
 use Rattle.machine.specs.Question.{refusal}
-use Rattle.machine.specs.Effect.{Store, Effect, stored, effect, read, showEntry, entryAnswer, showPage, putHeld, evict, putContent, changedPage, changedMemory, change, sync, restarted, restart, salted, newSalt, identifySize, identify}
+use Rattle.machine.specs.Effect.{Store, Effect, stored, effect, read, showEntry, entryAnswer, showPage, putHeld, evict, putContent, updatedPage, changedPage, changedMemory, change, sync, restarted, restart, salted, newSalt, identifySize, identify}
 use Rattle.machine.specs.Step.{step, timed, done}
 use Rattle.machine.specs.Claims.{ByteBox, ByteCommand, Stored}
 use Rattle.machine.proofs.CaseLaw.{same-or-not}
@@ -69,7 +69,7 @@ content-bytes Unfreeze a content b = tt
 content-bytes (Increment value) a content b = tt
 
 changed-are : (u : Update) (c : Command) → length (c .proof) ≡ proofSize → AreBytes (c .proof) → AreBytes (changedPage u c)
-unfolding changedPage
+unfolding updatedPage
 changed-are u c l b =
     let p = broughtPage (c .proof) in
     withEntry-are p (placeOf (c .block)) _ (entry-room p (placeOf (c .block)) (brought-length (c .proof) l) (placeOf-below (c .block)))

@@ -24,7 +24,7 @@ use Rattle.validity.proofs.ValidLaw.{Valid}
 use Rattle.machine.specs.declared.Kind.the-variants.{Change}
 use Rattle.machine.specs.Command.{Box, Command, boxOf, proofSize, broughtPage}
 use Rattle.machine.specs.Question.{contentLength}
-use Rattle.machine.specs.Effect.{Store, Effect, store, stored, putHeld, evict, putContent, changedPage, changedMemory, change, restarted, salted}
+use Rattle.machine.specs.Effect.{Store, Effect, store, stored, putHeld, evict, putContent, updatedPage, changedPage, changedMemory, change, restarted, salted}
 use Rattle.machine.specs.After.{HeldPageFirst}
 use Rattle.machine.proofs.CaseLaw.{same-or-not}
 use Rattle.machine.proofs.TagLaw.{brought-length}
@@ -119,7 +119,7 @@ salted-reads m s l ls =
 
 -- the page that an update stores
 pub changed-length : (u : Update) (c : Command) → length (c .proof) ≡ proofSize → length (changedPage u c) ≡ pageSize
-unfolding changedPage
+unfolding updatedPage
 changed-length u c l =
     let brought = brought-length (c .proof) l in
     withEntry-length (broughtPage (c .proof)) (placeOf (c .block)) _

@@ -30,7 +30,7 @@ use Rattle.machine.specs.declared.Kind.the-variants.{Change, Sync, Resta
 use Rattle.machine.specs.Command.{Box, kindNumbered, proofSize, broughtPage, broughtEntry, answerSize}
 use Rattle.machine.specs.Tag.{tag, currentPage}
 use Rattle.machine.specs.Question.{contentLength, questionsTo, questions, firstNo, refusal, AllYes}
-use Rattle.machine.specs.Effect.{changedPage}
+use Rattle.machine.specs.Effect.{updatedPage, changedPage}
 use Rattle.machine.specs.Step.{step}
 use Rattle.machine.specs.Run.{Given}
 use Rattle.machine.specs.Claims.{ValidBox}
@@ -96,7 +96,7 @@ module _ (time counted holds : ℕ) (e d : PageEntry) (s : Box) (h : Known time 
                       lt-ltb (count (s .memory) 0) countLimit (omega (arith, h .count-is)),
                       (
                         subst (λ (i : PageEntry). allowed u (state now i) ≡ true) (sym found) may,
-                        (subst (λ (i : PageEntry). withinLimit (updated u now i) ≡ true) (sym found) within, (tt, tt)),
+                        (subst (λ (i : PageEntry). withinLimit (updated u now i) ≡ true) (sym found) within, (refl, tt)),
                       ),
                     ),
                   ),
@@ -110,7 +110,7 @@ module _ (time counted holds : ℕ) (e d : PageEntry) (s : Box) (h : Known time 
   pub updated-known : (u : Update) (kind now value : ℕ) (content : List ℕ) → kindNumbered kind value ≡ Change u
       → refusal s (updating s kind now value content) ≡ 0 → (holds ≡ none) ⊎ (holds ≡ 0) → EntryFits (updated u now e)
       → Known now (counted + 1) 0 (updated u now e) d (step s (updating s kind now value content) .box)
-  unfolding groupOf placeOf changedPage
+  unfolding groupOf placeOf updatedPage
   updated-known u kind now value content k r held-here fits =
       let c = updating s kind now value content in
       let a = accepted-after s c r in
@@ -146,10 +146,10 @@ module _ (time counted holds : ℕ) (e d : PageEntry) (s : Box) (h : Known time 
         (
           and-intro (le-leb (lastTime (s .memory)) now (omega (arith, h .last))) (le-leb now latestTime early),
           (
-            tt,
+            refl,
             (
               and-intro refl (and-intro refl (eq-eqb (length (repeated answerSize 0)) answerSize (repeated-length answerSize 0))),
-              (tt, (tt, (tt, (tt, (tt, tt))))),
+              (refl, (refl, (refl, (refl, (refl, tt))))),
             ),
           ),
         ),

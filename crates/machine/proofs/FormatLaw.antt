@@ -1,5 +1,5 @@
 -- Formatting gives a valid box with blank pages and touches no data block. Assumes nothing.
-use mathlib.Core.Path.{_≡_, refl, ap, sym, subst, _∙_}
+use mathlib.Core.Path.{_≡_, refl, ap, ap₂, sym, subst, _∙_}
 use mathlib.Core.Bool.{_&&_}
 use mathlib.Mathlib.Data.Bool.Basic.{and-elim-left, and-elim-right}
 use mathlib.Core.List.{List, [], _∷_}
@@ -26,7 +26,7 @@ use Rattle.machine.specs.Command.{Box, boxOf}
 use Rattle.machine.specs.Tag.{currentPage}
 use Rattle.machine.specs.Question.{firstNo, AllYes}
 use Rattle.machine.specs.Effect.{Store, store, stored}
-use Rattle.machine.specs.Format.{Formatting, formatQuestions, blankPages, format}
+use Rattle.machine.specs.Format.{formattingOf, Formatting, formatQuestions, blankPages, format}
 use Rattle.machine.specs.Claims.{ByteBox, ValidBox, Formats}
 use Rattle.machine.proofs.CaseLaw.{same-or-not}
 use Rattle.machine.proofs.QuestionLaw.{numberedTo, accepted-yes}
@@ -75,7 +75,7 @@ pub record Formattable (s : Box) (g : ℕ) (salt : List ℕ) : Type 0 where
   pub disk : length (s .disk) ≡ diskSize g
   pub salt-size : length salt ≡ saltSize
 
-formattable : (s : Box) (g : ℕ) (salt : List ℕ) → firstNo (formatQuestions s g salt) ≡ 0 → Formattable s g salt
+pub formattable : (s : Box) (g : ℕ) (salt : List ℕ) → firstNo (formatQuestions s g salt) ≡ 0 → Formattable s g salt
 unfolding formatQuestions numberedTo
 formattable s g salt e =
     let h : AllYes (formatQuestions s g salt) = accepted-yes 6 (formatQuestions s g salt) refl e in
@@ -108,6 +108,19 @@ module _ (s : Box) (g : ℕ) (salt : List ℕ) where
   format-refused : (first ≡ 0 → ⊥) → format s g salt ≡ record { number = first; box = s }
   unfolding format first
   format-refused e = rw (format, ne-eqb (firstNo (formatQuestions s g salt)) 0 e)
+
+  -- the same, from the parts that the code leaves
+  pub formatting-accepted : (m d : List ℕ) → firstNo (formatQuestions s g salt) ≡ 0 → m ≡ formatted g salt
+      → d ≡ stored (s .disk) (blankPages g) → formattingOf 0 m d ≡ format s g salt
+  unfolding first formattedBox
+  formatting-accepted m d e em ed =
+      ap₂ (λ (x y : List ℕ). formattingOf 0 x y) em ed ∙ sym (format-accepted e)
+
+  pub formatting-refused : (n : ℕ) → n ≡ firstNo (formatQuestions s g salt) → (n ≡ 0 → ⊥)
+      → formattingOf n (s .memory) (s .disk) ≡ format s g salt
+  unfolding first
+  formatting-refused n e h =
+      ap (λ (i : ℕ). formattingOf i (s .memory) (s .disk)) e ∙ sym (format-refused (λ z. h (e ∙ z)))
 
   format-number : format s g salt .number ≡ first
   format-number =

@@ -22,7 +22,7 @@ use Rattle.machine.specs.declared.Kind.the-variants.{Read, Entry, Page, 
 use Rattle.machine.specs.Command.{Box, Command, broughtPage, broughtEntry}
 use Rattle.machine.specs.Tag.{currentPage}
 use Rattle.machine.specs.Question.{contentLength}
-use Rattle.machine.specs.Effect.{stored, effect, read, showEntry, showPage, putHeld, evict, putContent, changedPage, change, sync, restart, newSalt, identify}
+use Rattle.machine.specs.Effect.{stored, effect, read, showEntry, showPage, putHeld, evict, putContent, updatedPage, changedPage, change, sync, restart, newSalt, identify}
 use Rattle.machine.specs.Step.{timed}
 use Rattle.machine.proofs.TagLaw.{current, brought-length}
 use Rattle.machine.proofs.PassedLaw.{Passed, Changes, changed-group, timed-reads}
@@ -105,7 +105,7 @@ module _ (w : Watch) (u : Update) (s : Box) (c : Command) (q : Passed (Change u)
       (subst (λ (g : ℕ). SafePage w (block (s .disk) (pageBlock g))) (sym e) (safe .disk .page)))
 
   changed-safe : SafeBox w s → c .now < w .bound → groupOf (c .block) ≡ groupOf (w .block) → SafePage w (changedPage u c)
-  unfolding changedPage
+  unfolding updatedPage
   changed-safe safe l e =
       let found = brought-safe safe e in
       safe-page w (broughtPage (c .proof)) (c .block) _ (brought-length (c .proof) (x .proof)) found

@@ -1,7 +1,7 @@
 -- Laws of the questions: the first no, and when there is none. Assumes nothing.
 use mathlib.Core.Path.{_≡_, refl, ap, sym, subst, _∙_}
 use mathlib.Core.Logic.{inl, inr, ⊎-elim}
-use mathlib.Core.Bool.{Bool, true, false, _&&_, _||_, false≢true}
+use mathlib.Core.Bool.{Bool, true, false, _&&_, _||_, not, false≢true}
 use mathlib.Mathlib.Data.Bool.Basic.{and-elim-left, and-elim-right, or-inl, or-inr}
 use mathlib.Core.List.{List, [], _∷_, _++_}
 use Prim.Native.Nat.{ℕ, _≤_}
@@ -18,7 +18,7 @@ use Rattle.machine.specs.declared.Kind.{Kind}
 use Rattle.machine.specs.declared.Kind.the-variants.{Read, Entry, Page, Change, Sync, Restart, NewSalt, Identify, Unknown}
 use Rattle.machine.specs.Command.{Box, Command, kindOf, broughtPage, broughtTag, broughtEntry}
 use Rattle.machine.specs.Tag.{tag}
-use Rattle.machine.specs.Question.{Question, Put, NotPut, question1, question2, question3, question4, question5, question6, question7, question8, question9, question10, question11, questions, questionsTo, firstNo, refusal, AllYes, GetsYes}
+use Rattle.machine.specs.Question.{Question, Put, NotPut, question1, question2, question3, question4, question5, question6, question7, question8, question9, question10, question11, questions, questionsTo, firstNo, passes, refusal, AllYes, GetsYes}
 use Rattle.machine.specs.Claims.{IsFirstNo}
 
 -- ---- any list of questions
@@ -28,7 +28,7 @@ unfolding firstNo
 first-no [] h = absurd (h refl)
 first-no (NotPut ∷ qs) h =
     let rest = first-no qs h in
-    record { earlier = NotPut ∷ rest .earlier; later = rest .later; split = ap (λ (l : List Question). NotPut ∷ l) (rest .split); before = (tt, rest .before) }
+    record { earlier = NotPut ∷ rest .earlier; later = rest .later; split = ap (λ (l : List Question). NotPut ∷ l) (rest .split); before = (refl, rest .before) }
 first-no (Put n true ∷ qs) h =
     let rest = first-no qs h in
     record { earlier = Put n true ∷ rest .earlier; later = rest .later; split = ap (λ (l : List Question). Put n true ∷ l) (rest .split); before = (refl, rest .before) }
@@ -50,7 +50,7 @@ yes-accepted (Put n false ∷ qs) h = absurd (false≢true (h .0))
 pub accepted-yes : (n : ℕ) (qs : List Question) → numberedTo n qs ≡ true → firstNo qs ≡ 0 → AllYes qs
 unfolding firstNo numberedTo
 accepted-yes n [] h e = tt
-accepted-yes n (NotPut ∷ qs) h e = (tt, accepted-yes n qs h e)
+accepted-yes n (NotPut ∷ qs) h e = (refl, accepted-yes n qs h e)
 accepted-yes n (Put k true ∷ qs) h e = (refl, accepted-yes n qs (and-elim-right (leb k n) (numberedTo n qs) (and-elim-right (leb 1 k) (leb k n && numberedTo n qs) h)) e)
 accepted-yes n (Put k false ∷ qs) h e = absurd (omega (arith, leb-true 1 k (and-elim-left (leb 1 k) (leb k n && numberedTo n qs) h)))
 
@@ -75,7 +75,7 @@ pub stops-within : (n : ℕ) (qs later : List Question) → numberedTo n qs ≡ 
     → (1 ≤ firstNo (qs ++ later)) × (firstNo (qs ++ later) ≤ n)
 unfolding firstNo numberedTo
 stops-within n [] later h f = absurd (f tt)
-stops-within n (NotPut ∷ qs) later h f = stops-within n qs later h (λ y. f (tt, y))
+stops-within n (NotPut ∷ qs) later h f = stops-within n qs later h (λ y. f (refl, y))
 stops-within n (Put k true ∷ qs) later h f =
     stops-within n qs later (and-elim-right (leb k n) (numberedTo n qs) (and-elim-right (leb 1 k) (leb k n && numberedTo n qs) h))
     (λ y. f (refl, y))
@@ -83,6 +83,44 @@ stops-within n (Put k false ∷ qs) later h f = (
   leb-true 1 k (and-elim-left (leb 1 k) (leb k n && numberedTo n qs) h),
   leb-true k n (and-elim-left (leb k n) (numberedTo n qs) (and-elim-right (leb 1 k) (leb k n && numberedTo n qs) h)),
 )
+
+-- ---- asked one by one
+
+-- a question has number n, if it is put
+abbrev pub Numbered : ℕ → Question → Type 0
+Numbered n (Put k answer) = k ≡ n
+Numbered n NotPut = Unit
+
+-- one whose answer is no ends it
+pub says-no : (n : ℕ) (q : Question) (later : List Question) (r : Bool) → Numbered n q → r ≡ passes q → not r ≡ true
+    → n ≡ firstNo (q ∷ later)
+unfolding firstNo
+says-no n NotPut later r h e negated = absurd (false≢true (ap not (sym e) ∙ negated))
+says-no n (Put k true) later r h e negated = absurd (false≢true (ap not (sym e) ∙ negated))
+says-no n (Put k false) later r h e negated = sym h
+
+-- one whose answer is not leaves it to the rest
+pub goes-on : (q : Question) (later : List Question) (r : Bool) → r ≡ passes q → not r ≡ false → firstNo later ≡ firstNo (q ∷ later)
+unfolding firstNo
+goes-on NotPut later r e pass = refl
+goes-on (Put k true) later r e pass = refl
+goes-on (Put k false) later r e pass = absurd (false≢true (sym pass ∙ ap not e))
+
+-- the first questions that end it do so whatever comes later
+pub ends : (qs later : List Question) → (firstNo qs ≡ 0 → ⊥) → firstNo (qs ++ later) ≡ firstNo qs
+unfolding firstNo
+ends [] later h = absurd (h refl)
+ends (NotPut ∷ qs) later h = ends qs later h
+ends (Put k true ∷ qs) later h = ends qs later h
+ends (Put k false ∷ qs) later h = refl
+
+-- one that is not put makes no difference at the end
+pub not-put-last : (qs : List Question) → firstNo (qs ++ (NotPut ∷ [])) ≡ firstNo qs
+unfolding firstNo
+not-put-last [] = refl
+not-put-last (NotPut ∷ qs) = not-put-last qs
+not-put-last (Put k true ∷ qs) = not-put-last qs
+not-put-last (Put k false ∷ qs) = refl
 
 -- whether a question of number n is put
 unfoldable pub asks : ℕ → List Question → Bool
@@ -100,7 +138,7 @@ asked n (Put k answer ∷ qs) h =
 
 -- ---- the eleven
 
-all-numbered : (k : Kind) (s : Box) (c : Command) → numberedTo 11 (questionsTo k s c) ≡ true
+pub all-numbered : (k : Kind) (s : Box) (c : Command) → numberedTo 11 (questionsTo k s c) ≡ true
 unfolding numberedTo
 all-numbered Read s c = refl
 all-numbered Entry s c = refl

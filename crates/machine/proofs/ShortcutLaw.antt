@@ -28,7 +28,7 @@ use Rattle.machine.specs.declared.Kind.the-variants.{Read, Entry, Page, 
 use Rattle.machine.specs.Command.{Box, Command, kindOf, broughtPage, broughtTag, broughtEntry}
 use Rattle.machine.specs.Tag.{tag, currentPage}
 use Rattle.machine.specs.Question.{questionsTo, refusal, AllYes}
-use Rattle.machine.specs.Effect.{changedPage}
+use Rattle.machine.specs.Effect.{updatedPage, changedPage}
 use Rattle.machine.specs.Step.{step}
 use Rattle.machine.specs.Run.{Event, Given, after, run, Throughout}
 use Rattle.machine.specs.Claims.{RefusedBy, ValidBox}
@@ -61,7 +61,7 @@ not-free-before-expiry s c k f l =
 -- ---- a second unfreeze
 
 pub second-unfreeze-refused : SecondUnfreezeRefused
-unfolding SecondUnfreezeRefused changedPage
+unfolding SecondUnfreezeRefused updatedPage
 second-unfreeze-refused s c d kc kd same bytes a u =
     let ec = unfreeze-kind (c .kind) (c .value) kc in
     let ed = unfreeze-kind (d .kind) (d .value) kd in

@@ -12,9 +12,9 @@ use Rattle.octets.specs.Part.{AreBytes, repeated}
 use Rattle.octets.proofs.BelowLaw.{below-append}
 use Rattle.octets.proofs.RepeatedLaw.{repeated-length, repeated-below}
 use Rattle.machine.specs.declared.Kind.{Kind}
-use Rattle.machine.specs.Command.{Box, Command, Outcome, kindOf, answerSize}
+use Rattle.machine.specs.Command.{Box, Command, Outcome, outcomeOf, kindOf, answerSize}
 use Rattle.machine.specs.Question.{refusal}
-use Rattle.machine.specs.Effect.{effect}
+use Rattle.machine.specs.Effect.{Effect, stored, effect}
 use Rattle.machine.specs.Step.{padded, timed, done, refused, step}
 use Rattle.machine.specs.Claims.{Accepted, RefusedBy, Unaltered}
 use Rattle.machine.proofs.CaseLaw.{same-or-not}
@@ -55,6 +55,22 @@ refused-unaltered s c r =
 -- a command is accepted, or leaves the box as it was
 pub accepted-or-same : (s : Box) (c : Command) → (refusal s c ≡ 0) ⊎ (step s c .box ≡ s)
 accepted-or-same s c = same-or-not (refusal s c) 0 (λ r. inl r) (λ n. inr (refused-unaltered s c n .box))
+
+-- a refusal, from what the code leaves
+pub refused-of : (s : Box) (c : Command) (n : ℕ) → n ≡ refusal s c → (n ≡ 0 → ⊥)
+    → outcomeOf n (s .memory) (s .disk) (c .answer) ≡ step s c
+unfolding refused
+refused-of s c n e h =
+    ap (λ (i : ℕ). outcomeOf i (s .memory) (s .disk) (c .answer)) e ∙ sym (step-refused s c (λ z. h (e ∙ z)))
+
+-- an accepted command's outcome, from its parts
+pub outcome-of : (disk : List ℕ) (e : Effect) (memory after answer : List ℕ) → memory ≡ e .memory → after ≡ stored disk (e .stores)
+    → answer ≡ padded (e .named) → outcomeOf 0 memory after answer ≡ done disk e
+unfolding done
+outcome-of disk e memory after answer em ed ea =
+    ap (λ (x : List ℕ). outcomeOf 0 x after answer) em
+    ∙ ap (λ (x : List ℕ). outcomeOf 0 (e .memory) x answer) ed
+    ∙ ap (λ (x : List ℕ). outcomeOf 0 (e .memory) (stored disk (e .stores)) x) ea
 
 -- ---- the answer
 

@@ -34,8 +34,16 @@ pub record Outcome : Type 0 where
   pub box : Box
   pub answer : List ℕ
 
+-- each of the three from its parts, in the order of the controller's parameters
 abbrev pub boxOf : List ℕ → List ℕ → Box
 boxOf memory disk = record { memory = memory; disk = disk }
+
+abbrev pub commandOf : ℕ → ℕ → ℕ → ℕ → List ℕ → List ℕ → List ℕ → Command
+commandOf kind block now value content proof answer =
+    record { kind = kind; block = block; now = now; value = value; content = content; proof = proof; answer = answer }
+
+abbrev pub outcomeOf : ℕ → List ℕ → List ℕ → List ℕ → Outcome
+outcomeOf number memory disk answer = record { number = number; box = boxOf memory disk; answer = answer }
 
 -- ---- kinds
 

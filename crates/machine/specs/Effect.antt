@@ -17,7 +17,7 @@ use Rattle.disk.specs.Disk.{block, withBlock}
 use Rattle.memory.specs.Memory.{count, groups, held, none, heldPage, withSalt, withCount, withNoCounts, holding, holdingNone}
 use Rattle.machine.specs.declared.Kind.{Kind}
 use Rattle.machine.specs.declared.Kind.the-variants.{Read, Entry, Page, Change, Sync, Restart, NewSalt, Identify, Unknown}
-use Rattle.machine.specs.Command.{Box, Command, broughtPage, broughtEntry}
+use Rattle.machine.specs.Command.{Box, Command, broughtPage}
 use Rattle.machine.specs.Tag.{tagged, currentPage}
 
 -- a block store: a physical block and what it gets
@@ -77,9 +77,13 @@ putContent (Write lock) a content = store (physical a) content ∷ []
 putContent Unfreeze a content = []
 putContent (Increment value) a content = []
 
+-- a page with the entry of block a updated
+unfoldable pub updatedPage : Update → List ℕ → ℕ → ℕ → List ℕ
+updatedPage u page a now = withEntry page (placeOf a) (updated u now (entryAt page (placeOf a)))
+
 -- they "work on the page brought in the proof"
-unfoldable pub changedPage : Update → Command → List ℕ
-changedPage u c = withEntry (broughtPage (c .proof)) (placeOf (c .block)) (updated u (c .now) (broughtEntry c))
+abbrev pub changedPage : Update → Command → List ℕ
+changedPage u c = updatedPage u (broughtPage (c .proof)) (c .block) (c .now)
 
 -- "The changed page becomes the held one, its group's count rises by 1"
 unfoldable pub changedMemory : List ℕ → ℕ → List ℕ → List ℕ

@@ -17,6 +17,9 @@ pub record Formatting : Type 0 where
   pub number : ℕ
   pub box : Box
 
+abbrev pub formattingOf : ℕ → List ℕ → List ℕ → Formatting
+formattingOf number memory disk = record { number = number; box = boxOf memory disk }
+
 -- it "refuses by questions 1 (G, and 616 bytes of memory to fill), 2 and 6 (32 bytes of salt)"
 unfoldable pub formatQuestions : Box → ℕ → List ℕ → List Question
 formatQuestions s g salt =
@@ -34,6 +37,6 @@ unfoldable pub format : Box → ℕ → List ℕ → Formatting
 format s g salt =
     let n = firstNo (formatQuestions s g salt) in
     elim (eqb n 0) [
-      | true ↦ record { number = 0; box = boxOf (formatted g salt) (stored (s .disk) (blankPages g)) }
+      | true ↦ formattingOf 0 (formatted g salt) (stored (s .disk) (blankPages g))
       | false ↦ record { number = n; box = s }
     ]

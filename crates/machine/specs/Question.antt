@@ -28,6 +28,11 @@ pub data Question : Type 0 where
   Put : ℕ → Bool → Question
   NotPut : Question
 
+-- whether it lets the command pass: its answer is yes, or it is not put
+abbrev pub passes : Question → Bool
+passes (Put n answer) = answer
+passes NotPut = true
+
 -- ---- 1 to 6
 
 -- "Is the memory 616 bytes and valid?"
@@ -178,8 +183,7 @@ refusal s c = firstNo (questions s c)
 
 -- a question has yes, if it is put
 abbrev pub HasYes : Question → Type 0
-HasYes (Put n answer) = answer ≡ true
-HasYes NotPut = Unit
+HasYes q = passes q ≡ true
 
 -- each of them has
 abbrev pub AllYes : List Question → Type 0

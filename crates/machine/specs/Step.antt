@@ -22,6 +22,10 @@ timed s now = boxOf (withLastTime (s .memory) now) (s .disk)
 unfoldable pub done : List ℕ → Effect → Outcome
 done disk e = record { number = 0; box = boxOf (e .memory) (stored disk (e .stores)); answer = padded (e .named) }
 
+-- an accepted command: its effect is that on the box whose last time is now
+abbrev pub accepted : (Box → Effect) → Box → ℕ → Outcome
+accepted effect s now = done (s .disk) (effect (timed s now))
+
 -- "A no ends the command with that number; .. no buffer changes."
 unfoldable pub refused : ℕ → Box → Command → Outcome
 refused n s c = record { number = n; box = s; answer = c .answer }
@@ -29,6 +33,6 @@ refused n s c = record { number = n; box = s; answer = c .answer }
 unfoldable pub step : Box → Command → Outcome
 step s c =
     elim (eqb (refusal s c) 0) [
-      | true ↦ done (s .disk) (effect (kindOf c) (timed s (c .now)) c)
+      | true ↦ accepted (λ t. effect (kindOf c) t c) s (c .now)
       | false ↦ refused (refusal s c) s c
     ]

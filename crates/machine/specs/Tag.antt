@@ -2,12 +2,13 @@
 -- definitions.
 use mathlib.Core.Bool.{true, false}
 use mathlib.Core.List.{List, _++_}
-use Prim.Native.Nat.{ℕ}
+use Prim.Native.Nat.{ℕ, _+_}
 use lib.Dec.{eqb}
 use Rattle.octets.specs.Number.{bytes}
+use Rattle.lockpage.specs.Size.{pageSize}
 use Rattle.addressing.specs.Map.{pageBlock}
 use Rattle.disk.specs.Disk.{block}
-use Rattle.memory.specs.Layout.{countSize}
+use Rattle.memory.specs.Layout.{saltSize, countSize}
 use Rattle.memory.specs.Memory.{salt, count, held, heldPage}
 use Rattle.blake3.specs.Blake3.{digest}
 use Rattle.machine.specs.Command.{Box}
@@ -19,6 +20,9 @@ groupNumberSize = 8
 -- "salt, group in 8 bytes, count in 4 bytes, page": the salt and the group's count are those of memory m
 unfoldable pub tagMessage : List ℕ → ℕ → List ℕ → List ℕ
 tagMessage m g page = salt m ++ (bytes groupNumberSize g ++ (bytes countSize (count m g) ++ page))
+
+abbrev pub messageSize : ℕ
+messageSize = saltSize + (groupNumberSize + (countSize + pageSize))
 
 -- "The tag is the 32-byte BLAKE3 hash" of it
 unfoldable pub tag : List ℕ → ℕ → List ℕ → List ℕ
