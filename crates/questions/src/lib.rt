@@ -1,0 +1,56 @@
+// All questions that a command is asked before it is carried out, in order; and a function for each of 7 to 11, which hang on its
+// kind. The contracts cite the definitions of machine.
+mod change;
+
+ghost use mathlib.Core.Path.{_≡_};
+ghost use mathlib.Core.List.{[], _∷_};
+ghost use lib.ListN.{length};
+ghost use Rattle.memory.specs.Layout.{memorySize};
+ghost use Rattle.machine.specs.Command.{boxOf, commandOf};
+ghost use Rattle.machine.specs.Question.{question11, questionsTo, firstNo};
+use machine::Kind;
+
+// Question 11, as it is put to a new salt: its number where it says no, or 0.
+fn salt_refusal(memory: &[u8], content: &[u8]) -> u32
+    requires { ⌜ length (now memory) ≡ memorySize ⌝ }
+    ensures { λ r. ⌜ r ≡ firstNo (question11 Kind.NewSalt (now (memory .entry)) (now (content .entry)) ∷ []) ⌝ }
+{
+    if memory::has_salt(memory, content) {
+        return machine::SALT_UNCHANGED;
+    }
+    machine::ACCEPTED
+}
+
+// The number of the first question that says no to a command of kind k, or 0. Of the command's own kind and value they look
+// only at k.
+pub fn refusal(
+    memory: &[u8],
+    disk: &[u8],
+    k: Kind,
+    block: u32,
+    time: u32,
+    content: &[u8],
+    proof: &[u8],
+    answer: &[u8],
+) -> u32
+    ensures { λ r. ⌜ r ≡ firstNo (questionsTo k (boxOf (now (memory .entry)) (now (disk .entry))) (commandOf 0 block time 0 (now (content .entry)) (now (proof .entry)) (now (answer .entry)))) ⌝ }
+{
+    if !validity::valid(memory) {
+        return machine::MEMORY_INVALID;
+    }
+    let n = form::refusal(memory, disk, k, block, time, content, proof, answer);
+    if n != machine::ACCEPTED {
+        return n;
+    }
+    match k {
+        Kind::Read => machine::ACCEPTED,
+        Kind::Entry => machine::ACCEPTED,
+        Kind::Page => machine::ACCEPTED,
+        Kind::Change(u) => change::refusal(memory, u, block, time, proof),
+        Kind::Sync => machine::ACCEPTED,
+        Kind::Restart => machine::ACCEPTED,
+        Kind::NewSalt => salt_refusal(memory, content),
+        Kind::Identify => machine::ACCEPTED,
+        Kind::Unknown => machine::ACCEPTED,
+    }
+}
