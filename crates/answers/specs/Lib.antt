@@ -1,0 +1,2 @@
+-- What the effects of commands take for granted.
+pub mod Ready

@@ -1,0 +1,107 @@
+// Kinds 1, 2, 3 and 10, which show something and change the last time alone.
+ghost use mathlib.Core.Path.{_≡_};
+ghost use Prim.Native.Nat.{_<_};
+ghost use lib.ListN.{length};
+ghost use Rattle.lockpage.specs.Size.{pageSize};
+ghost use Rattle.lockpage.specs.Page.{entryAt};
+ghost use Rattle.addressing.specs.Map.{dataBlocks, groupOf, placeOf};
+ghost use Rattle.disk.specs.Disk.{HasGroup};
+ghost use Rattle.memory.specs.Layout.{memorySize};
+ghost use Rattle.memory.specs.Memory.{groups};
+ghost use Rattle.machine.specs.Command.{answerSize, boxOf, outcomeOf};
+ghost use Rattle.machine.specs.Tag.{currentPage};
+ghost use Rattle.machine.specs.Effect.{entryAnswer, showEntry, showPage};
+ghost use Rattle.machine.specs.Effect as E;
+ghost use Rattle.machine.specs.Step.{padded, accepted};
+ghost use Rattle.answers.specs.Ready.{Sound, Room, OnEveryDisk};
+use crate::room;
+use lockpage::Entry;
+use lockpage::PAGE_SIZE;
+use lockpage::states;
+
+// The bytes of each number that an identify answers.
+const IDENTIFY_SIZE: usize = 4;
+
+// Kind 1: a block.
+pub fn read(memory: &mut [u8], disk: &[u8], block: u32, time: u32, answer: &mut [u8])
+    requires { ⌜ Sound (now memory) (now disk) × ((block < dataBlocks (groups (now memory))) × Room (now answer)) ⌝ }
+    ensures { λ _. ⌜ outcomeOf 0 (now (memory .exit)) (now (disk .entry)) (now (answer .exit)) ≡ accepted (λ s. E.read s block) (boxOf (now (memory .entry)) (now (disk .entry))) time ⌝ }
+{
+    memory::set_last_time(memory, time);
+    disk::whole::read_block(disk, block, &mut answer[0..addressing::BLOCK_SIZE]);
+    room::zero_tail(answer, addressing::BLOCK_SIZE);
+}
+
+// A block's entry on the current page of its group.
+fn current_entry(memory: &[u8], disk: &[u8], block: u32) -> Entry
+    requires { ⌜ (length (now memory) ≡ memorySize) × HasGroup (now disk) (groupOf block) ⌝ }
+    ensures { λ r. ⌜ r ≡ entryAt (currentPage (boxOf (now (memory .entry)) (now (disk .entry))) (groupOf block)) (placeOf block) ⌝ }
+{
+    let group = addressing::group_of(block);
+    let place = addressing::place_of(block);
+    if memory::held(memory) == group {
+        return held_page::load_entry(memory, place);
+    }
+    disk::whole::load_entry(disk, group, place)
+}
+
+// Answers an entry, the time left and the state. The zeros come first: all of the answer is quicker to fill than a part that
+// starts at an odd place.
+fn answer_entry(answer: &mut [u8], e: Entry, time: u32)
+    requires { ⌜ length (now answer) ≡ answerSize ⌝ }
+    ensures { λ _. ⌜ now (answer .exit) ≡ padded (entryAnswer time e) ⌝ }
+{
+    room::zero_tail(answer, 0);
+    lockpage::entries::store_entry(answer, 0, e);
+    states::store_time_left(answer, lockpage::ENTRY_SIZE, e, time);
+    let at = lockpage::ENTRY_SIZE + states::TIME_LEFT_SIZE;
+    octets::store_u8(answer, at, states::state_number(states::state(e, time)));
+}
+
+// Kind 2: a block's entry.
+pub fn show_entry(memory: &mut [u8], disk: &[u8], block: u32, time: u32, answer: &mut [u8])
+    requires { ⌜ Sound (now memory) (now disk) × ((block < dataBlocks (groups (now memory))) × Room (now answer)) ⌝ }
+    ensures { λ _. ⌜ outcomeOf 0 (now (memory .exit)) (now (disk .entry)) (now (answer .exit)) ≡ accepted (λ s. showEntry s block time) (boxOf (now (memory .entry)) (now (disk .entry))) time ⌝ }
+{
+    memory::set_last_time(memory, time);
+    let e = current_entry(memory, disk, block);
+    answer_entry(answer, e, time);
+}
+
+// Copies the current page of a group into out.
+fn copy_current(memory: &[u8], disk: &[u8], group: u32, out: &mut [u8])
+    requires { ⌜ (length (now memory) ≡ memorySize) × (HasGroup (now disk) group × (length (now out) ≡ pageSize)) ⌝ }
+    ensures { λ _. ⌜ now (out .exit) ≡ currentPage (boxOf (now (memory .entry)) (now (disk .entry))) group ⌝ }
+{
+    if memory::held(memory) == group {
+        held_page::copy_page(memory, out);
+        return;
+    }
+    disk::whole::read_page(disk, group, out);
+}
+
+// Kind 3: the current page of a group and its tag.
+pub fn show_page(memory: &mut [u8], disk: &[u8], group: u32, time: u32, answer: &mut [u8])
+    requires { ⌜ Sound (now memory) (now disk) × ((group < groups (now memory)) × Room (now answer)) ⌝ }
+    ensures { λ _. ⌜ outcomeOf 0 (now (memory .exit)) (now (disk .entry)) (now (answer .exit)) ≡ accepted (λ s. showPage s group) (boxOf (now (memory .entry)) (now (disk .entry))) time ⌝ }
+{
+    memory::set_last_time(memory, time);
+    copy_current(memory, disk, group, &mut answer[0..PAGE_SIZE]);
+    tags::store_tag(memory, group, answer);
+}
+
+// Kind 10: the numbers of groups and of data blocks, whatever the disk.
+pub fn identify(memory: &mut [u8], time: u32, answer: &mut [u8])
+    requires { ⌜ (length (now memory) ≡ memorySize) × Room (now answer) ⌝ }
+    ensures { λ _. ⌜ OnEveryDisk E.identify (now (memory .entry)) time (now (memory .exit)) (now (answer .exit)) ⌝ }
+{
+    memory::set_last_time(memory, time);
+    let groups = memory::groups(memory);
+    octets::store_u32(answer, 0, groups);
+    octets::store_u32(
+        answer,
+        IDENTIFY_SIZE,
+        addressing::data_blocks(groups) as u32,
+    );
+    room::zero_tail(answer, 2 * IDENTIFY_SIZE);
+}

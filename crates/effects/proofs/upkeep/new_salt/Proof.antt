@@ -1,0 +1,37 @@
+-- `effects::upkeep::new_salt` meets its contract: a sync, then the counts cleared and the salt set. Assumes nothing.
+use borrow.Author.Needs.{needs}
+use mathlib.Core.Path.{_≡_, _∙_}
+use lib.ListN.{length}
+use Rattle.memory.specs.Layout.{memorySize}
+use Rattle.validity.proofs.ValidLaw.{facts}
+use Rattle.effects.proofs.UpkeepLaw.{renewed}
+use Rattle.effects.proofs.upkeep.new_salt.Statement.{statement}
+use Rattle.effects.proofs.upkeep.new_salt.Tie as tie
+
+-- the memory's length at entry
+size : (start : tie.Start) → length (start .args .memory .now) ≡ memorySize
+size start = facts _ (start .pre .0 .0) .size
+
+clear-counts-requires : tie.Need-clear-counts-requires
+clear-counts-requires c κs =
+    let kept = c .before .before .before .before .before .before in
+    kept .memory .given ∙ size (kept .before .before .before .before .before .before .before .before .before)
+
+set-salt-requires : tie.Need-set-salt-requires
+set-salt-requires c κs =
+    let cleared = c .before .before in
+    let kept = cleared .before .before .before .before .before .before .before .before in
+    let start = kept .before .before .before .before .before .before .before .before .before in
+    (cleared .memory2 .given ∙ kept .memory .given ∙ size start, start .pre .1 .1 .0)
+
+returns : tie.Need-returns
+returns c =
+    let salted = c .before .before in
+    let cleared = salted .before .before .before .before in
+    let synced = cleared .before .before .before .before .before .before .before .before in
+    renewed _ _ _ _ _ _ _ _ _ (synced .sync .ensures) (cleared .clear-counts .ensures) (salted .set-salt .ensures)
+
+pub new-salt-spec : {M : Type 1} → statement M
+new-salt-spec =
+    tie.close
+    (tie.spec (λ c κs. search needs) clear-counts-requires set-salt-requires (λ c. search needs) (λ c. search needs) (λ c. search needs) returns)
