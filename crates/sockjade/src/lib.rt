@@ -1,12 +1,10 @@
 // The functions that a C service calls. A slice crosses as a pointer and a length. No call has a precondition, and each
 // contract fixes the number answered and every byte of each buffer, by specs/.
 ghost use mathlib.Core.Path.{_≡_};
+ghost use Rattle.machine.specs.Command.{boxOf, commandOf, outcomeOf};
+ghost use Rattle.machine.specs.Step.{step};
+ghost use Rattle.machine.specs.Format.{formattingOf, format};
 ghost use Rattle.sockjade.specs.Digest.{outcome, digestCall};
-
-// The numbers answered.
-const ACCEPTED: u32 = 0;
-
-const BAD_LENGTH: u32 = 6;
 
 const LONGEST_INPUT: usize = 65536;
 
@@ -19,11 +17,52 @@ pub extern "C" fn sockjade_digest(input: &[u8], out: &mut [u8]) -> u32
     ensures { λ r. ⌜ outcome r (now (out .exit)) ≡ digestCall (now (input .entry)) (now (out .entry)) ⌝ }
 {
     if input.len() > LONGEST_INPUT {
-        return BAD_LENGTH;
+        return machine::LENGTH_WRONG;
     }
     if out.len() != DIGEST_SIZE {
-        return BAD_LENGTH;
+        return machine::LENGTH_WRONG;
     }
     blake3::digest(input, out);
-    ACCEPTED
+    machine::ACCEPTED
+}
+
+// One command: its number, with memory, disk and answer as document 01 has it; where the number is not 0, no byte changed.
+#[no_mangle]
+pub extern "C" fn sockjade_command(
+    memory: &mut [u8],
+    disk: &mut [u8],
+    kind: u32,
+    block: u32,
+    time: u32,
+    value: u32,
+    content: &[u8],
+    proof: &[u8],
+    answer: &mut [u8],
+) -> u32
+    ensures { λ r. ⌜ outcomeOf r (now (memory .exit)) (now (disk .exit)) (now (answer .exit)) ≡ step (boxOf (now (memory .entry)) (now (disk .entry))) (commandOf kind block time value (now (content .entry)) (now (proof .entry)) (now (answer .entry))) ⌝ }
+{
+    controller::command(
+        memory,
+        disk,
+        kind,
+        block,
+        time,
+        value,
+        content,
+        proof,
+        answer,
+    )
+}
+
+// Formats a box: 0, with memory and disk as document 01 has it; where the number is not 0, no byte changed.
+#[no_mangle]
+pub extern "C" fn sockjade_format(
+    memory: &mut [u8],
+    disk: &mut [u8],
+    groups: u32,
+    salt: &[u8],
+) -> u32
+    ensures { λ r. ⌜ formattingOf r (now (memory .exit)) (now (disk .exit)) ≡ format (boxOf (now (memory .entry)) (now (disk .entry))) groups (now (salt .entry)) ⌝ }
+{
+    controller::format(memory, disk, groups, salt)
 }

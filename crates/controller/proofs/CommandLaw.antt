@@ -1,0 +1,93 @@
+-- A command as the code takes it: its kind is found, the questions are asked, and its kind's effect is carried out. Assumes nothing.
+use mathlib.Core.Path.{_≡_, refl, ap, sym, subst, _∙_}
+use mathlib.Core.Bool.{false≢true}
+use mathlib.Core.List.{List}
+use Prim.Native.Nat.{ℕ, _<_}
+use borrow.Author.Tests.{ltb-true}
+use Rattle.lockpage.specs.declared.Update.{Update}
+use Rattle.addressing.specs.Map.{dataBlocks}
+use Rattle.memory.specs.Memory.{groups}
+use Rattle.machine.specs.declared.Kind.{Kind}
+use Rattle.machine.specs.declared.Kind.the-variants.{Read, Entry, Page, Change, Sync, Restart, NewSalt, Identify, Unknown}
+use Rattle.machine.specs.Command.{Box, Command, Outcome, boxOf, commandOf, outcomeOf, kindNumbered}
+use Rattle.machine.specs.Question.{questions, questionsTo, firstNo, refusal, AllYes}
+use Rattle.machine.specs.Effect.{change, effect}
+use Rattle.machine.specs.Step.{timed, done, accepted, step}
+use Rattle.machine.proofs.QuestionLaw.{all-numbered, accepted-yes}
+use Rattle.machine.proofs.PassedLaw.{passed, changes}
+use Rattle.machine.proofs.StepLaw.{step-accepted, refused-of}
+use Rattle.answers.specs.Ready.{Sound, MayChange}
+
+-- ---- a command of kind k that no question refuses
+
+pub all-yes : (k j : Kind) (s : Box) (c : Command) → firstNo (questionsTo k s c) ≡ 0 → k ≡ j → AllYes (questionsTo j s c)
+all-yes k j s c e ej =
+    subst (λ (i : Kind). AllYes (questionsTo i s c)) ej (accepted-yes 11 (questionsTo k s c) (all-numbered k s c) e)
+
+-- what the effects ask for
+pub sound : (k : Kind) (s : Box) (c : Command) → AllYes (questionsTo k s c) → Sound (s .memory) (s .disk)
+sound k s c h = (h .0, passed k s c h .disk)
+
+pub read-inside : (s : Box) (c : Command) → AllYes (questionsTo Read s c) → c .block < dataBlocks (groups (s .memory))
+read-inside s c h = ltb-true (c .block) (dataBlocks (groups (s .memory))) (passed Read s c h .range)
+
+pub entry-inside : (s : Box) (c : Command) → AllYes (questionsTo Entry s c) → c .block < dataBlocks (groups (s .memory))
+entry-inside s c h = ltb-true (c .block) (dataBlocks (groups (s .memory))) (passed Entry s c h .range)
+
+pub page-inside : (s : Box) (c : Command) → AllYes (questionsTo Page s c) → c .block < groups (s .memory)
+page-inside s c h = ltb-true (c .block) (groups (s .memory)) (passed Page s c h .range)
+
+pub may-change : (u : Update) (s : Box) (c : Command) → AllYes (questionsTo (Change u) s c)
+    → MayChange u (s .memory) (c .block) (c .now) (c .proof)
+may-change u s c h =
+    let known = changes u s c h in
+    (passed (Change u) s c h .early, (known .proof, (known .unspent, known .within)))
+
+-- an unknown kind is refused
+pub unknown-refused : (s : Box) (c : Command) → AllYes (questionsTo Unknown s c) → ⊥
+unknown-refused s c h = false≢true (h .1 .1 .0)
+
+-- the effect of a kind that is j
+pub carried : (k j : Kind) (s : Box) (c : Command) (now : ℕ) (o : Outcome) → k ≡ j → o ≡ accepted (λ t. effect j t c) s now
+    → o ≡ accepted (λ t. effect k t c) s now
+carried k j s c now o ej e = e ∙ ap (λ (i : Kind). accepted (λ t. effect i t c) s now) (sym ej)
+
+-- ---- a command
+
+-- k is the kind as it was found, and n the number that the questions gave
+module _ (m disk : List ℕ) (kind a now value : ℕ) (content proof answer : List ℕ) (k : Kind) (n : ℕ) (ek : k ≡ kindNumbered kind value)
+    (en : n ≡ firstNo (questionsTo k (boxOf m disk) (commandOf 0 a now 0 content proof answer))) where
+  abbrev box : Box
+  box = boxOf m disk
+
+  abbrev given : Command
+  given = commandOf kind a now value content proof answer
+
+  number : n ≡ refusal box given
+  unfolding refusal questions
+  number = en ∙ ap (λ (j : Kind). firstNo (questionsTo j box given)) ek
+
+  pub command-refused : (n ≡ 0 → ⊥) → outcomeOf n m disk answer ≡ step box given
+  command-refused h = refused-of box given n number h
+
+  -- of the command's own kind and value an effect looks at nothing
+  effect-same : (j : Kind) (t : Box) → effect j t (commandOf 0 a now 0 content proof answer) ≡ effect j t given
+  unfolding effect change
+  effect-same Read t = refl
+  effect-same Entry t = refl
+  effect-same Page t = refl
+  effect-same (Change u) t = refl
+  effect-same Sync t = refl
+  effect-same Restart t = refl
+  effect-same NewSalt t = refl
+  effect-same Identify t = refl
+  effect-same Unknown t = refl
+
+  pub command-accepted : (memory after r : List ℕ) → n ≡ 0
+      → outcomeOf 0 memory after r ≡ accepted (λ t. effect k t (commandOf 0 a now 0 content proof answer)) box now
+      → outcomeOf n memory after r ≡ step box given
+  command-accepted memory after r z e =
+      ap (λ (i : ℕ). outcomeOf i memory after r) z
+      ∙ e
+      ∙ ap (done disk) (effect-same k (timed box now))
+      ∙ sym (step-accepted k box given (sym ek) (sym number ∙ z))

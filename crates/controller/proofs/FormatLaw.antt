@@ -1,0 +1,103 @@
+-- Formatting as the code does it: its questions one by one, and the blank pages group after group. Assumes nothing.
+use mathlib.Core.Path.{_≡_, refl, ap, sym, _∙_}
+use mathlib.Core.Bool.{Bool, true, false, _&&_}
+use mathlib.Core.List.{List, [], _∷_}
+use Prim.Native.Nat.{ℕ, _+_, _≤_, _<_}
+use native.Mathlib.Numerals.{add-one}
+use borrow.Author.Tests.{le-leb, lt-leb, eq-eqb, ne-eqb}
+use lib.Dec.{eqb, leb}
+use lib.ListN.{length}
+use Rattle.lockpage.specs.Page.{blankPage}
+use Rattle.lockpage.proofs.PageLaw.{blankPage-length}
+use Rattle.addressing.specs.Map.{diskSize, pageBlock}
+use Rattle.addressing.proofs.MapLaw.{pageBlock-below}
+use Rattle.disk.specs.Disk.{withBlock}
+use Rattle.disk.proofs.DiskLaw.{withBlock-length, block-room}
+use Rattle.memory.specs.Layout.{memorySize, saltSize, mostGroups}
+use Rattle.machine.specs.Command.{boxOf}
+use Rattle.machine.specs.Question.{Question, Put, firstNo}
+use Rattle.machine.specs.Effect.{store, stored}
+use Rattle.machine.specs.Format.{formatQuestions, blankPages}
+use Rattle.machine.proofs.QuestionLaw.{says-no, goes-on}
+use Rattle.machine.proofs.EffectLaw.{stored-append}
+
+-- ---- the questions
+
+module _ (m disk : List ℕ) (g : ℕ) (salt : List ℕ) where
+  abbrev asked : List Question
+  asked = formatQuestions (boxOf m disk) g salt
+
+  first : Question
+  first = Put 1 (leb 1 g && (leb g mostGroups && eqb (length m) memorySize))
+
+  second : Question
+  second = Put 2 (eqb (length disk) (diskSize g))
+
+  third : Question
+  third = Put 6 (eqb (length salt) saltSize)
+
+  first-no : false ≡ (leb 1 g && (leb g mostGroups && eqb (length m) memorySize)) → 1 ≡ firstNo asked
+  unfolding formatQuestions first second third
+  first-no e = says-no 1 first (second ∷ third ∷ []) false refl e refl
+
+  pub too-few : g < 1 → 1 ≡ firstNo asked
+  too-few h = first-no (ap (λ (b : Bool). b && (leb g mostGroups && eqb (length m) memorySize)) (sym (lt-leb 1 g h)))
+
+  module _ (some : 1 ≤ g) where
+    least : leb 1 g ≡ true
+    least = le-leb 1 g some
+
+    pub too-many : mostGroups < g → 1 ≡ firstNo asked
+    too-many h = first-no (sym (rw (least, lt-leb g mostGroups h)))
+
+    module _ (few : g ≤ mostGroups) where
+      pub memory-wrong : (length m ≡ memorySize → ⊥) → 1 ≡ firstNo asked
+      memory-wrong h = first-no (sym (rw (least, le-leb g mostGroups few, ne-eqb (length m) memorySize h)))
+
+      module _ (size : length m ≡ memorySize) where
+        after-first : firstNo (second ∷ third ∷ []) ≡ firstNo asked
+        unfolding formatQuestions first second third
+        after-first = goes-on first (second ∷ third ∷ []) true (sym (rw (least, le-leb g mostGroups few, eq-eqb (length m) memorySize size))) refl
+
+        pub disk-wrong : (length disk ≡ diskSize g → ⊥) → 2 ≡ firstNo asked
+        unfolding second
+        disk-wrong h = says-no 2 second (third ∷ []) false refl (sym (ne-eqb (length disk) (diskSize g) h)) refl ∙ after-first
+
+        module _ (fits : length disk ≡ diskSize g) where
+          after-second : firstNo (third ∷ []) ≡ firstNo asked
+          unfolding second
+          after-second = goes-on second (third ∷ []) true (sym (eq-eqb (length disk) (diskSize g) fits)) refl ∙ after-first
+
+          pub salt-wrong : (length salt ≡ saltSize → ⊥) → 6 ≡ firstNo asked
+          unfolding third
+          salt-wrong h = says-no 6 third [] false refl (sym (ne-eqb (length salt) saltSize h)) refl ∙ after-second
+
+          pub none-wrong : length salt ≡ saltSize → 0 ≡ firstNo asked
+          unfolding third firstNo
+          none-wrong h = goes-on third [] true (sym (eq-eqb (length salt) saltSize h)) refl ∙ after-second
+
+-- ---- the pages
+
+pub pages-start : (disk : List ℕ) → disk ≡ stored disk (blankPages 0)
+unfolding stored blankPages
+pages-start disk = refl
+
+pub pages-step : (disk d page r : List ℕ) (g : ℕ) → page ≡ blankPage → d ≡ stored disk (blankPages g) → r ≡ withBlock d (pageBlock g) page
+    → r ≡ stored disk (blankPages (g + 1))
+unfolding stored blankPages
+pages-step disk d page r g ep ed er =
+    er
+    ∙ ap (withBlock d (pageBlock g)) ep
+    ∙ ap (λ (x : List ℕ). withBlock x (pageBlock g) blankPage) ed
+    ∙ sym (stored-append disk (blankPages g) (store (pageBlock g) blankPage ∷ []))
+    ∙ ap (λ (n : ℕ). stored disk (blankPages n)) (sym (add-one g))
+
+pub pages-end : (disk d : List ℕ) (g groups : ℕ) → g ≡ groups → d ≡ stored disk (blankPages g) → d ≡ stored disk (blankPages groups)
+pages-end disk d g groups e ed = ed ∙ ap (λ (n : ℕ). stored disk (blankPages n)) e
+
+pub page-fits : (d page r : List ℕ) (groups g : ℕ) → length d ≡ diskSize groups → g < groups → page ≡ blankPage
+    → r ≡ withBlock d (pageBlock g) page → length r ≡ diskSize groups
+page-fits d page r groups g l h ep er =
+    ap length er
+    ∙ withBlock-length d (pageBlock g) page (ap length ep ∙ blankPage-length) (block-room d groups (pageBlock g) l (pageBlock-below groups g h))
+    ∙ l

@@ -1,0 +1,3 @@
+-- The laws that proofs cite.
+pub mod CommandLaw
+pub mod FormatLaw

@@ -1,0 +1,78 @@
+// The controller: commands and formatting. No call has a precondition, and the contracts fix the number answered and every
+// byte of memory, disk and answer by the definitions of machine.
+mod formatting;
+
+ghost use mathlib.Core.Path.{_≡_};
+ghost use Rattle.machine.specs.Command.{boxOf, commandOf, outcomeOf};
+ghost use Rattle.machine.specs.Question.{questionsTo, firstNo};
+ghost use Rattle.machine.specs.Effect.{effect};
+ghost use Rattle.machine.specs.Step.{accepted, step};
+ghost use Rattle.machine.specs.Format.{formattingOf};
+ghost use Rattle.machine.specs.Format as F;
+use answers::shows;
+use effects::changes;
+use effects::upkeep;
+use machine::Kind;
+
+// Carries out a command of kind k that no question refuses. Of the command's own kind and value the effects look only at k.
+fn carry_out(
+    memory: &mut [u8],
+    disk: &mut [u8],
+    k: Kind,
+    block: u32,
+    time: u32,
+    content: &[u8],
+    proof: &[u8],
+    answer: &mut [u8],
+)
+    requires { ⌜ firstNo (questionsTo k (boxOf (now memory) (now disk)) (commandOf 0 block time 0 (now content) (now proof) (now answer))) ≡ 0 ⌝ }
+    ensures { λ _. ⌜ outcomeOf 0 (now (memory .exit)) (now (disk .exit)) (now (answer .exit)) ≡ accepted (λ s. effect k s (commandOf 0 block time 0 (now (content .entry)) (now (proof .entry)) (now (answer .entry)))) (boxOf (now (memory .entry)) (now (disk .entry))) time ⌝ }
+{
+    match k {
+        Kind::Read => shows::read(memory, disk, block, time, answer),
+        Kind::Entry => shows::show_entry(memory, disk, block, time, answer),
+        Kind::Page => shows::show_page(memory, disk, block, time, answer),
+        Kind::Change(u) => changes::change(memory, disk, u, block, time, content, proof, answer),
+        Kind::Sync => upkeep::sync(memory, disk, time, answer),
+        Kind::Restart => upkeep::restart(memory, time, answer),
+        Kind::NewSalt => upkeep::new_salt(memory, disk, time, content, answer),
+        Kind::Identify => shows::identify(memory, time, answer),
+        Kind::Unknown => {}
+    }
+}
+
+// One command: its number; where that is not 0, no byte is changed.
+pub fn command(
+    memory: &mut [u8],
+    disk: &mut [u8],
+    kind: u32,
+    block: u32,
+    time: u32,
+    value: u32,
+    content: &[u8],
+    proof: &[u8],
+    answer: &mut [u8],
+) -> u32
+    ensures { λ r. ⌜ outcomeOf r (now (memory .exit)) (now (disk .exit)) (now (answer .exit)) ≡ step (boxOf (now (memory .entry)) (now (disk .entry))) (commandOf kind block time value (now (content .entry)) (now (proof .entry)) (now (answer .entry))) ⌝ }
+{
+    let k = form::kinds::kind_numbered(kind, value);
+    let number = questions::refusal(memory, disk, k, block, time, content, proof, answer);
+    if number != machine::ACCEPTED {
+        return number;
+    }
+    carry_out(memory, disk, k, block, time, content, proof, answer);
+    number
+}
+
+// Formats a box: its number; where that is not 0, no byte is changed.
+pub fn format(memory: &mut [u8], disk: &mut [u8], groups: u32, salt: &[u8]) -> u32
+    ensures { λ r. ⌜ formattingOf r (now (memory .exit)) (now (disk .exit)) ≡ F.format (boxOf (now (memory .entry)) (now (disk .entry))) groups (now (salt .entry)) ⌝ }
+{
+    let refusal = formatting::refusal(memory, disk, groups, salt);
+    if refusal != machine::ACCEPTED {
+        return refusal;
+    }
+    memory::format(memory, groups, salt);
+    formatting::store_blank_pages(disk, groups);
+    machine::ACCEPTED
+}

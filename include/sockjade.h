@@ -1,0 +1,92 @@
+/* Sockjade: a timelock controller for a depot's download box.
+ *
+ * Every function answers a number: SOCKJADE_ACCEPTED, or the number of the first question that said no. Where it is not
+ * SOCKJADE_ACCEPTED, no byte of any buffer is changed. A call may be made with any numbers and with buffers of any length.
+ *
+ * What the caller sees to, which no proof covers: each pointer is valid for the length beside it and not null, even where the
+ * length is 0; the buffers of one call do not overlap; and two calls with the same memory or disk do not run at once. There is
+ * no state outside the buffers.
+ */
+#ifndef SOCKJADE_H
+#define SOCKJADE_H
+
+#include <stddef.h>
+#include <stdint.h>
+
+#ifdef __cplusplus
+extern "C" {
+#endif
+
+/* The numbers answered. */
+enum {
+    SOCKJADE_ACCEPTED = 0,
+    SOCKJADE_MEMORY_INVALID = 1,       /* the memory is not 616 bytes, or not valid; when formatting, the groups are not 1 to 16 */
+    SOCKJADE_DISK_SIZE_WRONG = 2,      /* the disk is not groups * 33,280 bytes */
+    SOCKJADE_KIND_UNKNOWN = 3,         /* the kind is not 1 to 10 */
+    SOCKJADE_TIME_OUT_OF_RANGE = 4,    /* now is before the last time, or above 2,147,483,647 */
+    SOCKJADE_ADDRESS_OUT_OF_RANGE = 5, /* no such data block; for a page, no such group */
+    SOCKJADE_LENGTH_WRONG = 6,         /* data, proof or answer is not of the kind's length; when formatting, the salt */
+    SOCKJADE_TAG_WRONG = 7,            /* the tag is not that of the page brought, under the present salt and count */
+    SOCKJADE_COUNT_SPENT = 8,          /* the group's count is spent, until a new salt */
+    SOCKJADE_STATE_WRONG = 9,          /* write: not free; unfreeze: not frozen; increment: free */
+    SOCKJADE_LIMIT_EXCEEDED = 10,      /* a lock above 2,147,483,647 or an expiry above 4,294,967,294 */
+    SOCKJADE_SALT_UNCHANGED = 11       /* the new salt is the present one */
+};
+
+/* Kinds of commands, with what each takes beside block and now, and what its answer has before the zeros. */
+enum {
+    SOCKJADE_READ = 1,      /* answer: the block */
+    SOCKJADE_ENTRY = 2,     /* answer: entry (word, stamp), time left (signed, 8 bytes), state (1 byte) */
+    SOCKJADE_PAGE = 3,      /* block names a group; answer: its page, and the tag */
+    SOCKJADE_WRITE = 4,     /* value: the lock in seconds; data: the block; proof: page and tag; answer: the new page and tag */
+    SOCKJADE_UNFREEZE = 5,  /* proof: page and tag; answer: the new page and tag */
+    SOCKJADE_INCREMENT = 6, /* value: seconds to add; proof: page and tag; answer: the new page and tag */
+    SOCKJADE_SYNC = 7,      /* the held page goes to the disk; answer: zeros */
+    SOCKJADE_RESTART = 8,   /* after a power cut: the held page is lost; answer: zeros */
+    SOCKJADE_NEW_SALT = 9,  /* data: the salt, from the box's own generator; answer: zeros */
+    SOCKJADE_IDENTIFY = 10  /* answer: groups, data blocks (4 bytes each) */
+};
+
+/* States in the answer of SOCKJADE_ENTRY. */
+enum {
+    SOCKJADE_FREE = 0,
+    SOCKJADE_FROZEN = 1,
+    SOCKJADE_COUNTING = 2
+};
+
+/* Sizes in bytes. Numbers of several bytes are little-endian. */
+enum {
+    SOCKJADE_MEMORY_SIZE = 616,
+    SOCKJADE_GROUP_SIZE = 33280,       /* on the disk, for each group */
+    SOCKJADE_BLOCK_SIZE = 512,
+    SOCKJADE_PAGE_SIZE = 512,
+    SOCKJADE_TAG_SIZE = 32,
+    SOCKJADE_PROOF_SIZE = 544,         /* a page, then its tag */
+    SOCKJADE_ANSWER_SIZE = 544,
+    SOCKJADE_SALT_SIZE = 32,
+    SOCKJADE_DIGEST_SIZE = 32,
+    SOCKJADE_LONGEST_INPUT = 65536,    /* of a digest */
+    SOCKJADE_MOST_GROUPS = 16,
+    SOCKJADE_BLOCKS_PER_GROUP = 64
+};
+
+/* One command, on the box's memory and disk. For kinds without data or proof the length is 0. `answer_len` is
+ * SOCKJADE_ANSWER_SIZE for every kind. An accepted command sets the box's last time to `now`. */
+uint32_t sockjade_command(uint8_t *memory, size_t memory_len, uint8_t *disk, size_t disk_len, uint32_t kind, uint32_t block,
+                          uint32_t now, uint32_t value, const uint8_t *data, size_t data_len, const uint8_t *proof,
+                          size_t proof_len, uint8_t *answer, size_t answer_len);
+
+/* Formats a box of `groups` groups: fills the memory, and makes every data block free by storing each group's blank page.
+ * It touches no data block. Answers SOCKJADE_ACCEPTED, or 1, 2 or 6. */
+uint32_t sockjade_format(uint8_t *memory, size_t memory_len, uint8_t *disk, size_t disk_len, uint32_t groups,
+                         const uint8_t *salt, size_t salt_len);
+
+/* The BLAKE3 digest of the input. Answers SOCKJADE_ACCEPTED with the digest in out, or 6 where the input is longer than
+ * SOCKJADE_LONGEST_INPUT or out_len is not SOCKJADE_DIGEST_SIZE. */
+uint32_t sockjade_digest(const uint8_t *input, size_t input_len, uint8_t *out, size_t out_len);
+
+#ifdef __cplusplus
+}
+#endif
+
+#endif
