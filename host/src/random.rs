@@ -3,8 +3,9 @@
 pub struct Random(u64);
 
 impl Random {
+    /// The state is never 0: its last bit is 1.
     pub fn new(seed: u64) -> Self {
-        Random(seed ^ 0x9E37_79B9_7F4A_7C15 | 1)
+        Random((seed << 1) ^ 0x9E37_79B9_7F4A_7C15)
     }
 
     pub fn next(&mut self) -> u64 {

@@ -1,0 +1,58 @@
+//! Compares the archive's controller with this crate's: every number and byte after every command.
+//! Arguments: SEED COUNT, the seed of the random runs and how many commands they have. It stops at
+//! the first difference; a run is a function of its seed. The last line has the counts for the gate.
+use sockjade_host::checks::pair::Pair;
+use sockjade_host::checks::{edges, effects, lengths, limits, order, pages, runs, stack, validity, Checked};
+use std::process::ExitCode;
+
+const SEED: u64 = 1;
+const COUNT: usize = 300_000;
+
+type Check<'a> = &'a dyn Fn(&mut Pair) -> Checked;
+
+fn argument<T: std::str::FromStr>(place: usize, usual: T) -> Result<T, String> {
+    match std::env::args().nth(place) {
+        None => Ok(usual),
+        Some(word) => word.parse().map_err(|_| format!("not a number: {word}")),
+    }
+}
+
+fn main() -> ExitCode {
+    let (seed, count) = match (argument(1, SEED), argument(2, COUNT)) {
+        (Ok(seed), Ok(count)) => (seed, count),
+        (Err(bad), _) | (_, Err(bad)) => {
+            println!("commands: {bad}");
+            return ExitCode::FAILURE;
+        }
+    };
+    println!("commands: seed {seed}");
+    let checks: [Check; 11] = [
+        &|_| edges::check(),
+        &|_| effects::check(),
+        &lengths::check,
+        &validity::check,
+        &order::check,
+        &order::check_formatting,
+        &limits::check,
+        &pages::check,
+        &|pair| runs::check(pair, seed, count),
+        &|pair| pair.table.check(),
+        &|_| stack::check(),
+    ];
+    let mut pair = Pair::default();
+    let mut counts = Vec::new();
+    let mut failed = 0;
+    for check in checks {
+        match check(&mut pair) {
+            Ok(count) => counts.push(count),
+            Err(difference) => {
+                println!("commands: seed {seed}, {difference}");
+                failed = 1;
+                break;
+            }
+        }
+    }
+    pair.table.print();
+    println!("commands: {}: {} passed, {failed} failed", counts.join(", "), counts.len());
+    if failed == 0 { ExitCode::SUCCESS } else { ExitCode::FAILURE }
+}

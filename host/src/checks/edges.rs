@@ -1,0 +1,107 @@
+//! Document 01's edge values on the archive alone, with bytes that are written out here.
+use super::alone::{same, Archive};
+use super::Checked;
+
+pub fn check() -> Checked {
+    formatting()?;
+    places()?;
+    entry()?;
+    zero_lock()?;
+    longest_lock()?;
+    script()?;
+    Ok("edge values by hand".into())
+}
+
+/// A memory of one group and zero salt, blank entries, data blocks as they were; and the tag of the
+/// blank page, by b3sum.
+fn formatting() -> Result<(), String> {
+    let mut a = Archive::formatted(1)?;
+    same("the formatted memory", &a.memory[..100], &[0; 100])?;
+    same("the formatted memory", &a.memory[100..104], &[1, 255, 0, 0])?;
+    same("the formatted memory", &a.memory[104..], &[0; 512])?;
+    same("the data blocks", &a.disk[..32_768], &[0xBB; 32_768])?;
+    same("the blank page", &a.disk[32_768..], &[0, 0, 0, 0, 1, 0, 0, 0].repeat(64))?;
+    a.gets(3, 0, 0, 0, 0)?;
+    same("the blank page", &a.answer[..512], &[0, 0, 0, 0, 1, 0, 0, 0].repeat(64))?;
+    same("its tag", &a.answer[512..], &BLANK_TAG)?;
+    a.gets(10, 0, 0, 0, 0)?;
+    same("identify", &a.answer[..8], &[1, 0, 0, 0, 64, 0, 0, 0])?;
+    same("identify", &a.answer[8..], &[0; 536])
+}
+
+/// What b3sum says of 44 zero bytes and the blank page.
+const BLANK_TAG: [u8; 32] = [
+    0xF8, 0xF3, 0x06, 0xAF, 0xB7, 0x85, 0x41, 0x59, 0x85, 0x0A, 0xB1, 0x88, 0xEE, 0x3A, 0xD9, 0x5C, 0x42, 0xAD, 0x1B,
+    0x1D, 0x4C, 0x2B, 0xB2, 0xA0, 0x66, 0xCB, 0xA0, 0x55, 0xA9, 0x5F, 0x37, 0x07,
+];
+
+/// 63 lies at 63, 64 at 65, 1,023 at 1,038; the page of group 15 at 1,039.
+fn places() -> Result<(), String> {
+    let mut a = Archive::formatted(16)?;
+    for (block, physical) in [(63, 63), (64, 65), (1023, 1038)] {
+        let before = a.disk.clone();
+        a.gets(7, 0, 0, 0, 0)?;
+        same(&format!("the block before {block} is written"), &a.disk[physical * 512..][..512], &[0xBB; 512])?;
+        a.gets(4, block, 0, 0, 0)?;
+        same(&format!("block {block}"), &a.disk[physical * 512..][..512], &[0x44; 512])?;
+        let changed = (0..1040).filter(|b| a.disk[b * 512..][..512] != before[b * 512..][..512]);
+        let data: Vec<usize> = changed.filter(|b| b % 65 != 64).collect();
+        if data != [physical] {
+            return Err(format!("by hand: the write of {block} changed the data blocks {data:?}"));
+        }
+        a.gets(1, block, 0, 0, 0)?;
+        same(&format!("what is read of {block}"), &a.answer[..512], &[0x44; 512])?;
+    }
+    same("the last entry before the sync", &a.disk[1039 * 512 + 504..], &[0, 0, 0, 0, 1, 0, 0, 0])?;
+    a.gets(7, 0, 0, 0, 0)?;
+    same("the last entry of group 15's page", &a.disk[1039 * 512 + 504..], &[0, 0, 0, 0, 0, 0, 0, 0])
+}
+
+/// Lock 500 written at 1000, unfrozen at 1200, counting to 1700, and grown by 100 in another box.
+fn entry() -> Result<(), String> {
+    let mut a = Archive::formatted(1)?;
+    a.gets(4, 0, 1000, 500, 0)?;
+    same("the entry written at 1000", &a.answer[..8], &[0xF4, 0x01, 0, 0, 0xD0, 0x07, 0, 0])?;
+    a.shows(0, 1100, [0xF4, 0x01, 0, 0, 0xD0, 0x07, 0, 0, 0xF4, 0x01, 0, 0, 0, 0, 0, 0, 1])?;
+    a.gets(5, 0, 1200, 0, 0)?;
+    same("the entry unfrozen at 1200", &a.answer[..8], &[0xA4, 0x06, 0, 0, 0xD1, 0x07, 0, 0])?;
+    a.gets(5, 0, 1300, 0, 9)?;
+    a.shows(0, 1650, [0xA4, 0x06, 0, 0, 0xD1, 0x07, 0, 0, 50, 0, 0, 0, 0, 0, 0, 0, 2])?;
+    a.shows(0, 1700, [0xA4, 0x06, 0, 0, 0xD1, 0x07, 0, 0, 0, 0, 0, 0, 0, 0, 0, 0, 0])?;
+    let past = [0xA4, 0x06, 0, 0, 0xD1, 0x07, 0, 0, 0xCE, 0xFF, 0xFF, 0xFF, 0xFF, 0xFF, 0xFF, 0xFF, 0];
+    a.shows(0, 1750, past)?;
+    let mut b = Archive::formatted(1)?;
+    b.gets(4, 0, 1000, 500, 0)?;
+    b.gets(5, 0, 1200, 0, 0)?;
+    b.gets(6, 0, 1200, 100, 0)?;
+    same("the entry grown by 100", &b.answer[..8], &[0x08, 0x07, 0, 0, 0xD1, 0x07, 0, 0])
+}
+
+/// Lock 0 unfrozen at 1200 is free at 1200.
+fn zero_lock() -> Result<(), String> {
+    let mut a = Archive::formatted(1)?;
+    a.gets(4, 5, 1000, 0, 0)?;
+    a.gets(4, 5, 1200, 0, 9)?;
+    a.gets(5, 5, 1200, 0, 0)?;
+    a.shows(5, 1200, [0xB0, 0x04, 0, 0, 0xD1, 0x07, 0, 0, 0, 0, 0, 0, 0, 0, 0, 0, 0])?;
+    a.gets(4, 5, 1200, 1, 0)
+}
+
+/// Lock 2,147,483,647 passes and 2,147,483,648 gets 10.
+fn longest_lock() -> Result<(), String> {
+    let mut a = Archive::formatted(1)?;
+    a.gets(4, 0, 1000, 2_147_483_648, 10)?;
+    a.gets(4, 0, 1000, 2_147_483_647, 0)?;
+    same("the longest lock", &a.answer[..8], &[0xFF, 0xFF, 0xFF, 0x7F, 0xD0, 0x07, 0, 0])
+}
+
+/// The numbers of document 01's script.
+fn script() -> Result<(), String> {
+    let mut a = Archive::formatted(1)?;
+    a.gets(4, 0, 1000, 500, 0)?;
+    a.gets(5, 0, 1200, 0, 0)?;
+    a.gets(4, 0, 1699, 9, 9)?;
+    a.shows(0, 1699, [0xA4, 0x06, 0, 0, 0xD1, 0x07, 0, 0, 1, 0, 0, 0, 0, 0, 0, 0, 2])?;
+    a.gets(4, 0, 1700, 9, 0)?;
+    a.gets(5, 64, 1700, 0, 5)
+}

@@ -1,0 +1,157 @@
+//! The archive's controller and the host's, kept in step: each command goes to both, and then the
+//! numbers, every byte of the five buffers and the canaries around them are compared.
+use super::call::{Call, GROUP, MEMORY};
+use super::room::Room;
+use super::table::Table;
+use crate::{archive, blake3, controller};
+
+/// This crate's own BLAKE3.
+pub struct OwnDigest;
+
+impl controller::Digest for OwnDigest {
+    fn digest(message: &controller::Message) -> [u8; 32] {
+        blake3::digest(message)
+    }
+}
+
+#[derive(Default)]
+struct Side {
+    memory: Room,
+    disk: Room,
+    data: Room,
+    proof: Room,
+    answer: Room,
+}
+
+impl Side {
+    fn prepare(&mut self, call: &Call, index: usize) {
+        self.data.put(&call.data, index % 7);
+        self.proof.put(&call.proof, index % 5);
+        self.answer.fill(call.answer_len, index as u8 | 1, index % 3);
+    }
+}
+
+#[derive(Default)]
+pub struct Pair {
+    archive: Side,
+    own: Side,
+    /// How many commands and formattings there were.
+    pub index: usize,
+    pub table: Table,
+}
+
+impl Pair {
+    /// Gives both controllers this memory and disk.
+    pub fn load(&mut self, memory: &[u8], disk: &[u8]) {
+        for side in [&mut self.archive, &mut self.own] {
+            side.memory.put(memory, self.index % 11);
+            side.disk.put(disk, self.index % 13);
+        }
+    }
+
+    /// Loads a box as formatting leaves it, of zero data blocks.
+    pub fn load_formatted(&mut self, groups: u8, salt: &[u8]) -> Result<(), String> {
+        self.load(&[0; MEMORY], &vec![0; GROUP * groups as usize]);
+        self.expect_format(groups as u32, salt, 0)
+    }
+
+    pub fn memory(&self) -> &[u8] {
+        self.own.memory.part()
+    }
+
+    pub fn disk(&self) -> &[u8] {
+        self.own.disk.part()
+    }
+
+    pub fn answer(&self) -> &[u8] {
+        self.own.answer.part()
+    }
+
+    /// Changes the memory of both.
+    pub fn change_memory(&mut self, change: impl Fn(&mut [u8])) {
+        change(self.archive.memory.part_mut());
+        change(self.own.memory.part_mut());
+    }
+
+    /// A command with the current page of the box.
+    pub fn good(&self, kind: u32, block: u32, now: u32, value: u32) -> Call {
+        Call::good(kind, block, now, value, self.memory(), self.disk())
+    }
+
+    pub fn command(&mut self, call: &Call) -> Result<u32, String> {
+        self.index += 1;
+        let Call { kind, block, now, value, .. } = *call;
+        let memory_len = call.memory_len.unwrap_or(self.memory().len());
+        let disk_len = call.disk_len.unwrap_or(self.disk().len());
+        self.archive.prepare(call, self.index);
+        self.own.prepare(call, self.index);
+        let Side { memory, disk, data, proof, answer } = &mut self.archive;
+        let (memory, disk) = (memory.view_mut(memory_len), disk.view_mut(disk_len));
+        let (data, proof, answer) = (data.part(), proof.part(), answer.part_mut());
+        let got = archive::command(memory, disk, kind, block, now, value, data, proof, answer);
+        let Side { memory, disk, data, proof, answer } = &mut self.own;
+        let (memory, disk) = (memory.view_mut(memory_len), disk.view_mut(disk_len));
+        let command = controller::Command { kind, block, now, value, data: data.part(), proof: proof.part() };
+        let number = controller::command::<OwnDigest>(memory, disk, &command, answer.part_mut());
+        self.compare(got, number).map_err(|e| format!("{}, {e}", self.describe(call)))?;
+        self.table.command(kind, number);
+        Ok(number)
+    }
+
+    /// A command that is to get this number.
+    pub fn expect(&mut self, call: &Call, number: u32) -> Result<(), String> {
+        let got = self.command(call)?;
+        if got == number {
+            return Ok(());
+        }
+        Err(format!("{}: both answered {got} instead of {number}", self.describe(call)))
+    }
+
+    pub fn expect_format(&mut self, groups: u32, salt: &[u8], number: u32) -> Result<(), String> {
+        self.index += 1;
+        self.archive.data.put(salt, self.index % 7);
+        self.own.data.put(salt, self.index % 7);
+        let Side { memory, disk, data, .. } = &mut self.archive;
+        let got = archive::format(memory.part_mut(), disk.part_mut(), groups, data.part());
+        let own = controller::format(self.own.memory.part_mut(), self.own.disk.part_mut(), groups, salt);
+        let place = format!("command {}, formatting {groups} groups", self.index);
+        self.compare(got, own).map_err(|e| format!("{place}: {e}"))?;
+        if own != number {
+            return Err(format!("{place}: both answered {own} instead of {number}"));
+        }
+        self.table.formatting(number);
+        Ok(())
+    }
+
+    fn compare(&self, got: u32, number: u32) -> Result<(), String> {
+        if got != number {
+            return Err(format!("answered {got} instead of {number}"));
+        }
+        let (a, b) = (&self.archive, &self.own);
+        let rooms = [
+            ("memory", &a.memory, &b.memory),
+            ("disk", &a.disk, &b.disk),
+            ("data", &a.data, &b.data),
+            ("proof", &a.proof, &b.proof),
+            ("answer", &a.answer, &b.answer),
+        ];
+        for (name, got, right) in rooms {
+            if let Some(difference) = got.difference(right) {
+                return Err(format!("answered {number}, {name}: {difference}"));
+            }
+        }
+        Ok(())
+    }
+
+    fn describe(&self, call: &Call) -> String {
+        let Call { kind, block, now, value, .. } = call;
+        let lengths = [
+            call.memory_len.unwrap_or(self.memory().len()),
+            call.disk_len.unwrap_or(self.disk().len()),
+            call.data.len(),
+            call.proof.len(),
+            call.answer_len,
+        ];
+        format!("command {}, kind {kind} block {block} now {now} value {value} lengths {lengths:?}", self.index)
+    }
+}

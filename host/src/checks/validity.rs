@@ -1,0 +1,109 @@
+//! Each clause of a memory's validity, broken on its own, and met at its limits.
+use super::call::{put_number, Call, LATEST, UNKNOWN};
+use super::pair::Pair;
+use super::situation::{situation, Questions, NOW};
+use super::Checked;
+
+/// A place of the memory, how many bytes are put there, the number, and whether it stays valid.
+type Change = (usize, usize, u32, bool);
+
+const TIMES: [Change; 5] =
+    [(96, 4, 0, true), (96, 4, NOW, true), (96, 4, LATEST, true), (96, 4, LATEST + 1, false), (96, 4, u32::MAX, false)];
+
+const RESERVED: [Change; 6] = [
+    (102, 1, 1, false), (102, 1, 128, false), (102, 1, 255, false), (103, 1, 1, false), (103, 1, 128, false),
+    (103, 1, 255, false),
+];
+
+/// With G 2: no number of groups but 1 to 16. (With another the disk's length is wrong.)
+const GROUPS: [Change; 5] =
+    [(100, 1, 0, false), (100, 1, 17, false), (100, 1, 18, false), (100, 1, 128, false), (100, 1, 255, false)];
+
+/// With G 2 and group 1 held, whose count is at 36.
+const HELD: [Change; 12] = [
+    (101, 1, 0, true), (101, 1, 1, true), (101, 1, 2, false), (101, 1, 3, false), (101, 1, 16, false),
+    (101, 1, 254, false), (36, 4, 0, false), (36, 4, 1, true), (36, 4, u32::MAX - 1, true), (36, 4, u32::MAX, false),
+    (32, 4, 0, true), (32, 4, u32::MAX, true),
+];
+
+/// With G 2 and none held: the counts below G are free.
+const COUNTS: [Change; 4] = [(32, 4, 0, true), (32, 4, u32::MAX, true), (36, 4, 0, true), (36, 4, u32::MAX, true)];
+
+pub fn check(pair: &mut Pair) -> Checked {
+    let start = pair.index;
+    for held in [255, 1] {
+        for change in TIMES.into_iter().chain(RESERVED).chain(GROUPS) {
+            one(pair, held, change)?;
+        }
+        for at in 40..96 {
+            one(pair, held, (at, 1, 1, false))?;
+            one(pair, held, (at, 1, 128, false))?;
+        }
+        for at in 104..616 {
+            one(pair, held, (at, 1, 1, held == 1))?;
+            one(pair, held, (at, 1, 128, held == 1))?;
+        }
+        for at in 0..32 {
+            one(pair, held, (at, 1, 200, true))?;
+        }
+    }
+    HELD.into_iter().try_for_each(|change| one(pair, 1, change))?;
+    COUNTS.into_iter().try_for_each(|change| one(pair, 255, change))?;
+    numbers_of_groups(pair)?;
+    Ok(format!("validity: {} calls", pair.index - start))
+}
+
+/// The memory takes the change. Where it stays valid it gets a sync, a restart and an identify;
+/// where not, every kind, or one of them if the place is one of the many of the held page.
+fn one(pair: &mut Pair, held: u8, (at, size, number, valid): Change) -> Result<(), String> {
+    let kinds = match valid {
+        true => vec![7, 8, 10],
+        false if at >= 104 => vec![1 + at as u32 % 10],
+        false => (1..=10).chain(UNKNOWN).collect(),
+    };
+    for kind in kinds {
+        let mut made = situation(kind, held, Questions::NONE, 0);
+        match size {
+            1 => made.memory[at] = number as u8,
+            _ => put_number(&mut made.memory, at, number),
+        }
+        made.call.now = if valid { LATEST } else { NOW };
+        pair.load(&made.memory, &made.disk);
+        pair.expect(&made.call, if valid { 0 } else { 1 })?;
+    }
+    Ok(())
+}
+
+/// Each number of groups with the disk of its length: 1 to 16 are valid. The counts from G on are to
+/// be 0; the held group is to be below G.
+fn numbers_of_groups(pair: &mut Pair) -> Result<(), String> {
+    for groups in 0..=18u8 {
+        let mut memory = vec![0; 616];
+        memory[100] = groups;
+        memory[101] = 255;
+        let disk = vec![0; groups as usize * 33_280];
+        let valid = (1..=16).contains(&groups);
+        sent(pair, &memory, &disk, valid)?;
+        if !valid {
+            continue;
+        }
+        for at in (32 + 4 * groups as usize..96).step_by(3) {
+            memory[at] = 1;
+            sent(pair, &memory, &disk, false)?;
+            memory[at] = 0;
+        }
+        // The groups of the box have a count that fits a held one.
+        (0..groups as usize).for_each(|group| memory[32 + 4 * group] = 1);
+        for held in [0, groups - 1, groups, groups + 1, 16, 17, 254] {
+            memory[101] = held;
+            sent(pair, &memory, &disk, held < groups)?;
+        }
+    }
+    Ok(())
+}
+
+/// An identify to the box.
+fn sent(pair: &mut Pair, memory: &[u8], disk: &[u8], valid: bool) -> Result<(), String> {
+    pair.load(memory, disk);
+    pair.expect(&Call::new(10, 0, 0, 0), if valid { 0 } else { 1 })
+}
