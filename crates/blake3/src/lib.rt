@@ -7,6 +7,8 @@ ghost use Prim.Native.Nat.{_^_, _<_};
 ghost use lib.ListN.{length};
 ghost use Rattle.blake3.specs.Blake3 as B;
 
+pub const DIGEST_SIZE: usize = 32;
+
 const ROOT: u32 = 8;
 
 // Fills out with the digest of the input.

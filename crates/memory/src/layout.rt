@@ -8,7 +8,7 @@ pub const SALT_SIZE: usize = 32;
 
 pub const COUNTS_START: usize = SALT_START + SALT_SIZE;
 
-const COUNT_SIZE: usize = 4;
+pub const COUNT_SIZE: usize = 4;
 
 pub const MOST_GROUPS: u32 = 16;
 

@@ -8,8 +8,6 @@ ghost use Rattle.sockjade.specs.Digest.{outcome, digestCall};
 
 const LONGEST_INPUT: usize = 65536;
 
-const DIGEST_SIZE: usize = 32;
-
 // The BLAKE3 digest of the input: 0 and the digest in out; 6 and no byte changed where the input is longer than 65,536
 // bytes or out is not 32.
 #[no_mangle]
@@ -19,7 +17,7 @@ pub extern "C" fn sockjade_digest(input: &[u8], out: &mut [u8]) -> u32
     if input.len() > LONGEST_INPUT {
         return machine::LENGTH_WRONG;
     }
-    if out.len() != DIGEST_SIZE {
+    if out.len() != blake3::DIGEST_SIZE {
         return machine::LENGTH_WRONG;
     }
     blake3::digest(input, out);

@@ -10,9 +10,10 @@ ghost use Rattle.machine.specs.Command.{tagSize, proofSize, answerSize, brought
 ghost use Rattle.machine.specs.Tag.{messageSize, tagMessage, tagged};
 ghost use Rattle.machine.specs.Tag as T;
 use lockpage::PAGE_SIZE;
+use memory::layout::COUNT_SIZE;
 use memory::layout::SALT_SIZE;
 
-const TAG_SIZE: usize = 32;
+const TAG_SIZE: usize = blake3::DIGEST_SIZE;
 
 // A page and its tag, as they are brought.
 pub const PROOF_SIZE: usize = PAGE_SIZE + TAG_SIZE;
@@ -21,8 +22,6 @@ pub const PROOF_SIZE: usize = PAGE_SIZE + TAG_SIZE;
 pub const ANSWER_SIZE: usize = PAGE_SIZE + TAG_SIZE;
 
 const GROUP_NUMBER_SIZE: usize = 8;
-
-const COUNT_SIZE: usize = 4;
 
 const MESSAGE_SIZE: usize = SALT_SIZE + GROUP_NUMBER_SIZE + COUNT_SIZE + PAGE_SIZE;
 
