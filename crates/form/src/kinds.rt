@@ -42,7 +42,7 @@ pub(crate) fn is_known(k: Kind) -> bool
 }
 
 // The length of the content that a kind brings.
-pub(crate) fn content_length(k: Kind) -> usize
+pub fn content_length(k: Kind) -> usize
     ensures { λ r. ⌜ r ≡ contentLength k ⌝ }
 {
     match k {
@@ -69,7 +69,7 @@ fn update_length(u: Update) -> usize
 }
 
 // The length of the proof that it brings.
-pub(crate) fn proof_length(k: Kind) -> usize
+pub fn proof_length(k: Kind) -> usize
     ensures { λ r. ⌜ r ≡ proofLength k ⌝ }
 {
     match k {

@@ -1,0 +1,54 @@
+-- `decimal::put` meets its contract. It ends because n / 10 is below n, where n is not of one digit. Assumes nothing.
+use borrow.Author.Needs.{needs}
+use borrow.Fn.Kinds.{In}
+use borrow.Fn.PlainCycle.{Measures, is, falls, and}
+use native.Mathlib.Omega.{arith}
+use Prim.Native.Nat.{ℕ, _<_}
+use Rattle.decimal.proofs.DecimalLaw.{decimal-some, decimal-longer}
+use Rattle.decimal.proofs.PutLaw.{Rest, put-one, put-more}
+use Rattle.decimal.proofs.put.Reads as put
+use Rattle.decimal.proofs.put.Kinds as put-kinds
+use Rattle.decimal.proofs.+put.Lts-put as put-lts
+use Rattle.decimal.proofs.+put.{statement}
+use Rattle.decimal.proofs.+put.Tie.{close}
+
+abbrev μ-put : Measures 1 put-kinds.ps ℕ
+μ-put κs a = a .1 .1 .0
+
+abbrev put-at : ℕ → In 1 put-kinds.ps
+put-at t = and 1 put-kinds.ps (is 1 put-kinds.ps μ-put t) put.Pre
+
+abbrev put-below : ℕ → In 1 put-kinds.ps
+put-below t = and 1 put-kinds.ps (falls 1 put-kinds.ps _<_ μ-put t) put.Pre
+
+-- behind the call
+rest : (t : ℕ) (c : put-lts.After-slice-known2 (put-below t, put.Post) (put-at t) put.Post)
+    → Rest (c .before .before .before .before .before .before .args .out .now)
+    (c .before .before .before .before .before .before .args .at)
+    (c .before .before .before .before .before .before .args .n)
+    (c .before .before .put .last .0)
+    (c .before .before .put .result)
+rest t c =
+    let start = c .before .before .before .before .before .before in
+    put-more _ _ _ _ _ (c .before .before .before .before .if1 .left) (start .pre .1) (c .before .before .put .ensures)
+
+put-room : (t : ℕ) → put-lts.Need-slice-write-out (put-below t, put.Post) (put-at t) put.Post
+put-room t c = omega (arith, decimal-some (c .before .before .args .n))
+
+pub +put-spec : {M : Type 1} → statement M
++put-spec = close μ-put λ t. put-lts.spec (put-below t, put.Post)
+    (put-at t)
+    put.Post
+    (λ c. search needs)
+    (λ c. search needs)
+    (put-room t)
+    (λ c. search needs)
+    (λ c. search needs)
+    (λ c. put-one _ _ _ (c .if1 .taken) (c .before .before .pre .1))
+    (λ c κs. (omega arith, omega (arith, decimal-longer (c .before .before .before .args .n) (c .before .if1 .left))))
+    (λ c. search needs)
+    (λ c. search needs)
+    (λ c. rest t c .room)
+    (λ c. record { fits = omega (arith, rest t c .fits) })
+    (λ c. search needs)
+    (λ c. rest t c .put)

@@ -1,0 +1,2 @@
+-- The definitions that the contracts of script_answers cite.
+pub mod Answer

@@ -1,0 +1,4 @@
+// The script program on a script with a bad line in the middle.
+fn main() {
+    script_io::run();
+}

@@ -1,0 +1,4 @@
+// The script program on every kind, accepted.
+fn main() {
+    script_io::run();
+}

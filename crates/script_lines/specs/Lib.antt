@@ -1,0 +1,4 @@
+-- The definitions that the contracts of script_lines cite, and the claims about them.
+pub mod Form
+pub mod Reading
+pub mod Claims
