@@ -1,4 +1,4 @@
-//! The comparison of commands: `bin/commands.rs` runs these checks.
+//! The comparison of commands, whose checks `bin/commands.rs` runs, and in `script` that of scripts.
 mod alone;
 pub mod call;
 pub mod edges;
@@ -10,6 +10,7 @@ pub mod pages;
 pub mod pair;
 pub mod room;
 pub mod runs;
+pub mod script;
 mod server;
 pub mod situation;
 pub mod stack;

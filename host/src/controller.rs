@@ -3,6 +3,7 @@
 mod entry;
 mod memory;
 
+use crate::blake3;
 use entry::{Entry, Update};
 use memory::{Memory, Page, LAST_COUNT, LATEST, PAGE_SIZE};
 use std::ops::Range;
@@ -32,6 +33,15 @@ pub type Message = [u8; MESSAGE_SIZE];
 /// The hash that tags are made with.
 pub trait Digest {
     fn digest(message: &Message) -> Tag;
+}
+
+/// This crate's own BLAKE3.
+pub struct OwnDigest;
+
+impl Digest for OwnDigest {
+    fn digest(message: &Message) -> Tag {
+        blake3::digest(message)
+    }
 }
 
 pub struct Command<'a> {

@@ -1,8 +1,11 @@
-//! What the comparisons and the benchmark share: the archive's functions, a BLAKE3 and a controller
-//! written apart from it, the comparison of commands, guarded buffers and random numbers.
+//! What the comparisons and the benchmark share: the archive's functions, a BLAKE3, a controller and
+//! a script interpreter written apart from it, the comparisons of commands and of scripts, guarded
+//! buffers and random numbers.
 pub mod archive;
+pub mod arguments;
 pub mod blake3;
 pub mod checks;
 pub mod controller;
 pub mod guarded;
 pub mod random;
+pub mod script;

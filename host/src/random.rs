@@ -25,4 +25,14 @@ impl Random {
             *b = (self.next() >> 32) as u8;
         }
     }
+
+    /// A place in the list of weights, which are parts of a hundred, or none where they add up to less.
+    pub fn weighted(&mut self, weights: &[usize]) -> Option<usize> {
+        let mut left = self.below(100);
+        weights.iter().position(|&weight| {
+            let here = left < weight;
+            left = left.saturating_sub(weight);
+            here
+        })
+    }
 }

@@ -1,9 +1,13 @@
-//! How fast the archive is, next to other implementations: its digest and its commands. The words
-//! `digest` and `commands` run one part. Nothing here passes or fails.
+//! How fast the archive is, next to other implementations: its digest and its commands; and the
+//! script program. The words `digest`, `commands` and `script` run one part. Nothing here passes or
+//! fails.
 mod commands;
 mod digest;
 #[cfg(official)]
 mod official;
+mod script;
+
+const PARTS: [(&str, fn()); 3] = [("digest", digest::run), ("commands", commands::run), ("script", script::run)];
 
 fn median(values: &mut [f64]) -> f64 {
     values.sort_by(f64::total_cmp);
@@ -12,15 +16,16 @@ fn median(values: &mut [f64]) -> f64 {
 
 fn main() {
     let words: Vec<String> = std::env::args().skip(1).collect();
-    if let Some(bad) = words.iter().find(|w| !["digest", "commands"].contains(&w.as_str())) {
-        println!("unknown: {bad} (digest, commands)");
+    if words == [script::INTERPRET] {
+        return script::interpret().expect("the interpreter's input and output");
+    }
+    if let Some(bad) = words.iter().find(|w| !PARTS.iter().any(|(name, _)| name == w)) {
+        println!("unknown: {bad} ({})", PARTS.map(|(name, _)| name).join(", "));
         return;
     }
-    let wanted = |part: &str| words.is_empty() || words.iter().any(|w| w == part);
-    if wanted("digest") {
-        digest::run();
-    }
-    if wanted("commands") {
-        commands::run();
+    for (name, run) in PARTS {
+        if words.is_empty() || words.iter().any(|w| w == name) {
+            run();
+        }
     }
 }

@@ -1,6 +1,7 @@
 //! Compares the archive's controller with this crate's: every number and byte after every command.
 //! Arguments: SEED COUNT, the seed of the random runs and how many commands they have. It stops at
 //! the first difference; a run is a function of its seed. The last line has the counts for the gate.
+use sockjade_host::arguments::seed_and_count;
 use sockjade_host::checks::pair::Pair;
 use sockjade_host::checks::{edges, effects, lengths, limits, order, pages, runs, stack, validity, Checked};
 use std::process::ExitCode;
@@ -10,17 +11,10 @@ const COUNT: usize = 300_000;
 
 type Check<'a> = &'a dyn Fn(&mut Pair) -> Checked;
 
-fn argument<T: std::str::FromStr>(place: usize, usual: T) -> Result<T, String> {
-    match std::env::args().nth(place) {
-        None => Ok(usual),
-        Some(word) => word.parse().map_err(|_| format!("not a number: {word}")),
-    }
-}
-
 fn main() -> ExitCode {
-    let (seed, count) = match (argument(1, SEED), argument(2, COUNT)) {
-        (Ok(seed), Ok(count)) => (seed, count),
-        (Err(bad), _) | (_, Err(bad)) => {
+    let (seed, count) = match seed_and_count(SEED, COUNT) {
+        Ok(given) => given,
+        Err(bad) => {
             println!("commands: {bad}");
             return ExitCode::FAILURE;
         }

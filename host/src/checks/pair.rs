@@ -3,16 +3,8 @@
 use super::call::{Call, GROUP, MEMORY};
 use super::room::Room;
 use super::table::Table;
-use crate::{archive, blake3, controller};
-
-/// This crate's own BLAKE3.
-pub struct OwnDigest;
-
-impl controller::Digest for OwnDigest {
-    fn digest(message: &controller::Message) -> [u8; 32] {
-        blake3::digest(message)
-    }
-}
+use crate::controller::OwnDigest;
+use crate::{archive, controller};
 
 #[derive(Default)]
 struct Side {

@@ -72,14 +72,7 @@ impl<'a> Server<'a> {
     }
 
     fn kind(&mut self) -> u32 {
-        let mut left = self.random.below(100);
-        for (kind, weight) in (1..).zip(WEIGHTS) {
-            if left < weight {
-                return kind;
-            }
-            left -= weight;
-        }
-        10
+        self.random.weighted(&WEIGHTS).map_or(10, |place| place as u32 + 1)
     }
 
     fn now(&mut self) -> u32 {
