@@ -6,6 +6,11 @@
  * What the caller sees to, which no proof covers: each pointer is valid for the length beside it and not null, even where the
  * length is 0; the buffers of one call do not overlap; and two calls with the same memory or disk do not run at once. There is
  * no state outside the buffers.
+ *
+ * What a service sees to, on which the promise hangs: `now` is the box's own clock, never a time that the server sends; a new salt
+ * is from the box's own generator; memory and disk as an accepted command leaves them are stored, whole, before its answer leaves the
+ * box; and nobody else writes them. A lock outlasts a restart once its page is on the disk, by a sync or because another group's
+ * page took its place. examples/service.c is a model.
  */
 #ifndef SOCKJADE_H
 #define SOCKJADE_H
@@ -36,7 +41,7 @@ enum {
 /* Kinds of commands, with what each takes beside block and now, and what its answer has before the zeros. */
 enum {
     SOCKJADE_READ = 1,      /* answer: the block */
-    SOCKJADE_ENTRY = 2,     /* answer: entry (word, stamp), time left (signed, 8 bytes), state (1 byte) */
+    SOCKJADE_ENTRY = 2,     /* answer: entry (word, stamp), time left (signed, 8 bytes from byte 8 on), state (byte 16) */
     SOCKJADE_PAGE = 3,      /* block names a group; answer: its page, and the tag */
     SOCKJADE_WRITE = 4,     /* value: the lock in seconds; data: the block; proof: page and tag; answer: the new page and tag */
     SOCKJADE_UNFREEZE = 5,  /* proof: page and tag; answer: the new page and tag */
