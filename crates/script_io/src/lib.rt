@@ -78,6 +78,13 @@ fn read_piece(
     }
     let n = io::count(got, piece);
     let fed = script::feed(reader, memory, disk, &piece[..n], out);
+    if !fed.taken {
+        io::write_all(STDERR_FILENO, b"no room for the printout\n");
+        return Turn {
+            reader: reader,
+            going: false,
+        };
+    }
     let going = write_printed(fed.progress, out);
     let next = fed.progress.reader;
     Turn {
