@@ -2,6 +2,7 @@
 // contracts cite specs/.
 ghost use mathlib.Core.Path.{_≡_};
 ghost use Prim.Native.Nat.{_<_};
+ghost use Rattle.lockpage.specs.Geometry.{present};
 ghost use Rattle.addressing.specs.Map.{groupBlocks, diskSize, dataBlocks, groupOf, placeOf, pageBlock, groupStart, blockStart};
 ghost use Rattle.addressing.specs.Map as M;
 
@@ -18,57 +19,57 @@ pub const GROUP_SIZE: usize = GROUP_BLOCKS * BLOCK_SIZE;
 
 // The bytes of a disk.
 pub fn disk_size(groups: u32) -> usize
-    ensures { λ r. ⌜ r ≡ diskSize groups ⌝ }
+    ensures { λ r. ⌜ r ≡ diskSize present groups ⌝ }
 {
     groups as usize * GROUP_SIZE
 }
 
 // The number of data blocks.
 pub fn data_blocks(groups: u32) -> usize
-    ensures { λ r. ⌜ r ≡ dataBlocks groups ⌝ }
+    ensures { λ r. ⌜ r ≡ dataBlocks present groups ⌝ }
 {
     PAGE_PLACE * groups as usize
 }
 
 // The group of a data block.
 pub fn group_of(block: u32) -> u32
-    ensures { λ r. ⌜ r ≡ groupOf block ⌝ }
+    ensures { λ r. ⌜ r ≡ groupOf present block ⌝ }
 {
     block / GROUP_DATA
 }
 
 // Its place in the group.
 pub fn place_of(block: u32) -> usize
-    ensures { λ r. ⌜ r ≡ placeOf block ⌝ }
+    ensures { λ r. ⌜ r ≡ placeOf present block ⌝ }
 {
     (block % GROUP_DATA) as usize
 }
 
 // Its physical block.
 pub fn physical(block: u32) -> usize
-    ensures { λ r. ⌜ r ≡ M.physical block ⌝ }
+    ensures { λ r. ⌜ r ≡ M.physical present block ⌝ }
 {
     block as usize + group_of(block) as usize
 }
 
 // The physical block of a group's page.
 pub fn page_block(group: u32) -> usize
-    ensures { λ r. ⌜ r ≡ pageBlock group ⌝ }
+    ensures { λ r. ⌜ r ≡ pageBlock present group ⌝ }
 {
     GROUP_BLOCKS * group as usize + PAGE_PLACE
 }
 
 // The first byte of a group's stretch of the disk.
 pub fn group_start(group: u32) -> usize
-    ensures { λ r. ⌜ r ≡ groupStart group ⌝ }
+    ensures { λ r. ⌜ r ≡ groupStart present group ⌝ }
 {
     GROUP_SIZE * group as usize
 }
 
 // The first byte, within its group, of the block at a place.
 pub fn block_start(place: usize) -> usize
-    requires { ⌜ place < groupBlocks ⌝ }
-    ensures { λ r. ⌜ r ≡ blockStart place ⌝ }
+    requires { ⌜ place < groupBlocks present ⌝ }
+    ensures { λ r. ⌜ r ≡ blockStart present place ⌝ }
 {
     BLOCK_SIZE * place
 }

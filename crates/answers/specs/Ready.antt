@@ -5,6 +5,7 @@ use mathlib.Core.Bool.{true}
 use mathlib.Core.List.{List}
 use Prim.Native.Nat.{ℕ, _≤_, _<_}
 use lib.ListN.{length}
+use Rattle.lockpage.specs.Geometry.{Geometry}
 use Rattle.lockpage.specs.declared.Update.{Update}
 use Rattle.lockpage.specs.Page.{entryAt}
 use Rattle.lockpage.specs.Update.{latestTime, updated, withinLimit}
@@ -15,21 +16,23 @@ use Rattle.machine.specs.Command.{Box, proofSize, broughtPage, answerSize, boxO
 use Rattle.machine.specs.Effect.{Effect}
 use Rattle.machine.specs.Step.{accepted}
 
--- of the box: questions 1 and 2
-abbrev pub Sound : List ℕ → List ℕ → Type 0
-Sound m disk = (valid m ≡ true) × (length disk ≡ diskSize (groups m))
+-- γ is the box's geometry
+module _ (γ : Geometry) where
+  -- of the box: questions 1 and 2
+  abbrev pub Sound : List ℕ → List ℕ → Type 0
+  Sound m disk = (valid γ m ≡ true) × (length disk ≡ diskSize γ (groups γ m))
 
--- of the room for the answer: question 6
-abbrev pub Room : List ℕ → Type 0
-Room answer = length answer ≡ answerSize
+  -- of the room for the answer: question 6
+  abbrev pub Room : List ℕ → Type 0
+  Room answer = length answer ≡ answerSize γ
 
--- of what an update of block a brings: questions 4, 6, 8 and 10
-abbrev pub MayChange : Update → List ℕ → ℕ → ℕ → List ℕ → Type 0
-MayChange u m a now proof =
-    (now ≤ latestTime)
-    × ((length proof ≡ proofSize)
-    × ((count m (groupOf a) < countLimit) × (withinLimit (updated u now (entryAt (broughtPage proof) (placeOf a))) ≡ true)))
+  -- of what an update of block a brings: questions 4, 6, 8 and 10
+  abbrev pub MayChange : Update → List ℕ → ℕ → ℕ → List ℕ → Type 0
+  MayChange u m a now proof =
+      (now ≤ latestTime)
+      × ((length proof ≡ proofSize γ)
+      × ((count m (groupOf γ a) < countLimit) × (withinLimit (updated u now (entryAt (broughtPage γ proof) (placeOf γ a))) ≡ true)))
 
--- the outcome of an effect that has to do with no disk: on every one
-abbrev pub OnEveryDisk : (Box → Effect) → List ℕ → ℕ → List ℕ → List ℕ → Type 0
-OnEveryDisk effect m now memory answer = (disk : List ℕ) → outcomeOf 0 memory disk answer ≡ accepted effect (boxOf m disk) now
+  -- the outcome of an effect that has to do with no disk: on every one
+  abbrev pub OnEveryDisk : (Box → Effect) → List ℕ → ℕ → List ℕ → List ℕ → Type 0
+  OnEveryDisk effect m now memory answer = (disk : List ℕ) → outcomeOf 0 memory disk answer ≡ accepted γ effect (boxOf m disk) now

@@ -2,6 +2,7 @@
 ghost use mathlib.Core.Path.{_≡_};
 ghost use Prim.Native.Nat.{_<_};
 ghost use lib.ListN.{length};
+ghost use Rattle.lockpage.specs.Geometry.{present};
 ghost use Rattle.lockpage.specs.Size.{pageSize};
 ghost use Rattle.lockpage.specs.Page.{entryAt};
 ghost use Rattle.addressing.specs.Map.{dataBlocks, groupOf, placeOf};
@@ -24,8 +25,8 @@ const IDENTIFY_SIZE: usize = 4;
 
 // Kind 1: a block.
 pub fn read(memory: &mut [u8], disk: &[u8], block: u32, time: u32, answer: &mut [u8])
-    requires { ⌜ Sound (now memory) (now disk) × ((block < dataBlocks (groups (now memory))) × Room (now answer)) ⌝ }
-    ensures { λ _. ⌜ outcomeOf 0 (now (memory .exit)) (now (disk .entry)) (now (answer .exit)) ≡ accepted (λ s. E.read s block) (boxOf (now (memory .entry)) (now (disk .entry))) time ⌝ }
+    requires { ⌜ Sound present (now memory) (now disk) × ((block < dataBlocks present (groups present (now memory))) × Room present (now answer)) ⌝ }
+    ensures { λ _. ⌜ outcomeOf 0 (now (memory .exit)) (now (disk .entry)) (now (answer .exit)) ≡ accepted present (λ s. E.read present s block) (boxOf (now (memory .entry)) (now (disk .entry))) time ⌝ }
 {
     memory::set_last_time(memory, time);
     disk::whole::read_block(disk, block, &mut answer[0..addressing::BLOCK_SIZE]);
@@ -34,8 +35,8 @@ pub fn read(memory: &mut [u8], disk: &[u8], block: u32, time: u32, answer: &mut 
 
 // A block's entry on the current page of its group.
 fn current_entry(memory: &[u8], disk: &[u8], block: u32) -> Entry
-    requires { ⌜ (length (now memory) ≡ memorySize) × HasGroup (now disk) (groupOf block) ⌝ }
-    ensures { λ r. ⌜ r ≡ entryAt (currentPage (boxOf (now (memory .entry)) (now (disk .entry))) (groupOf block)) (placeOf block) ⌝ }
+    requires { ⌜ (length (now memory) ≡ memorySize present) × HasGroup present (now disk) (groupOf present block) ⌝ }
+    ensures { λ r. ⌜ r ≡ entryAt (currentPage present (boxOf (now (memory .entry)) (now (disk .entry))) (groupOf present block)) (placeOf present block) ⌝ }
 {
     let group = addressing::group_of(block);
     let place = addressing::place_of(block);
@@ -48,8 +49,8 @@ fn current_entry(memory: &[u8], disk: &[u8], block: u32) -> Entry
 // Answers an entry, the time left and the state. The zeros come first: all of the answer is quicker to fill than a part that
 // starts at an odd place.
 fn answer_entry(answer: &mut [u8], e: Entry, time: u32)
-    requires { ⌜ length (now answer) ≡ answerSize ⌝ }
-    ensures { λ _. ⌜ now (answer .exit) ≡ padded (entryAnswer time e) ⌝ }
+    requires { ⌜ length (now answer) ≡ answerSize present ⌝ }
+    ensures { λ _. ⌜ now (answer .exit) ≡ padded present (entryAnswer time e) ⌝ }
 {
     room::zero_tail(answer, 0);
     lockpage::entries::store_entry(answer, 0, e);
@@ -60,8 +61,8 @@ fn answer_entry(answer: &mut [u8], e: Entry, time: u32)
 
 // Kind 2: a block's entry.
 pub fn show_entry(memory: &mut [u8], disk: &[u8], block: u32, time: u32, answer: &mut [u8])
-    requires { ⌜ Sound (now memory) (now disk) × ((block < dataBlocks (groups (now memory))) × Room (now answer)) ⌝ }
-    ensures { λ _. ⌜ outcomeOf 0 (now (memory .exit)) (now (disk .entry)) (now (answer .exit)) ≡ accepted (λ s. showEntry s block time) (boxOf (now (memory .entry)) (now (disk .entry))) time ⌝ }
+    requires { ⌜ Sound present (now memory) (now disk) × ((block < dataBlocks present (groups present (now memory))) × Room present (now answer)) ⌝ }
+    ensures { λ _. ⌜ outcomeOf 0 (now (memory .exit)) (now (disk .entry)) (now (answer .exit)) ≡ accepted present (λ s. showEntry present s block time) (boxOf (now (memory .entry)) (now (disk .entry))) time ⌝ }
 {
     memory::set_last_time(memory, time);
     let e = current_entry(memory, disk, block);
@@ -70,8 +71,8 @@ pub fn show_entry(memory: &mut [u8], disk: &[u8], block: u32, time: u32, answer:
 
 // Copies the current page of a group into out.
 fn copy_current(memory: &[u8], disk: &[u8], group: u32, out: &mut [u8])
-    requires { ⌜ (length (now memory) ≡ memorySize) × (HasGroup (now disk) group × (length (now out) ≡ pageSize)) ⌝ }
-    ensures { λ _. ⌜ now (out .exit) ≡ currentPage (boxOf (now (memory .entry)) (now (disk .entry))) group ⌝ }
+    requires { ⌜ (length (now memory) ≡ memorySize present) × (HasGroup present (now disk) group × (length (now out) ≡ pageSize present)) ⌝ }
+    ensures { λ _. ⌜ now (out .exit) ≡ currentPage present (boxOf (now (memory .entry)) (now (disk .entry))) group ⌝ }
 {
     if memory::held(memory) == group {
         held_page::copy_page(memory, out);
@@ -82,8 +83,8 @@ fn copy_current(memory: &[u8], disk: &[u8], group: u32, out: &mut [u8])
 
 // Kind 3: the current page of a group and its tag.
 pub fn show_page(memory: &mut [u8], disk: &[u8], group: u32, time: u32, answer: &mut [u8])
-    requires { ⌜ Sound (now memory) (now disk) × ((group < groups (now memory)) × Room (now answer)) ⌝ }
-    ensures { λ _. ⌜ outcomeOf 0 (now (memory .exit)) (now (disk .entry)) (now (answer .exit)) ≡ accepted (λ s. showPage s group) (boxOf (now (memory .entry)) (now (disk .entry))) time ⌝ }
+    requires { ⌜ Sound present (now memory) (now disk) × ((group < groups present (now memory)) × Room present (now answer)) ⌝ }
+    ensures { λ _. ⌜ outcomeOf 0 (now (memory .exit)) (now (disk .entry)) (now (answer .exit)) ≡ accepted present (λ s. showPage present s group) (boxOf (now (memory .entry)) (now (disk .entry))) time ⌝ }
 {
     memory::set_last_time(memory, time);
     copy_current(memory, disk, group, &mut answer[0..PAGE_SIZE]);
@@ -92,8 +93,8 @@ pub fn show_page(memory: &mut [u8], disk: &[u8], group: u32, time: u32, answer: 
 
 // Kind 10: the numbers of groups and of data blocks, whatever the disk.
 pub fn identify(memory: &mut [u8], time: u32, answer: &mut [u8])
-    requires { ⌜ (length (now memory) ≡ memorySize) × Room (now answer) ⌝ }
-    ensures { λ _. ⌜ OnEveryDisk E.identify (now (memory .entry)) time (now (memory .exit)) (now (answer .exit)) ⌝ }
+    requires { ⌜ (length (now memory) ≡ memorySize present) × Room present (now answer) ⌝ }
+    ensures { λ _. ⌜ OnEveryDisk present (E.identify present) (now (memory .entry)) time (now (memory .exit)) (now (answer .exit)) ⌝ }
 {
     memory::set_last_time(memory, time);
     let groups = memory::groups(memory);

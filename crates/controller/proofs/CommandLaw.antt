@@ -4,6 +4,7 @@ use mathlib.Core.Bool.{false≢true}
 use mathlib.Core.List.{List}
 use Prim.Native.Nat.{ℕ, _<_}
 use borrow.Author.Tests.{ltb-true}
+use Rattle.lockpage.specs.Geometry.{Geometry, Proper}
 use Rattle.lockpage.specs.declared.Update.{Update}
 use Rattle.addressing.specs.Map.{dataBlocks}
 use Rattle.memory.specs.Memory.{groups}
@@ -18,76 +19,78 @@ use Rattle.machine.proofs.PassedLaw.{passed, changes}
 use Rattle.machine.proofs.StepLaw.{step-accepted, refused-of}
 use Rattle.answers.specs.Ready.{Sound, MayChange}
 
--- ---- a command of kind k that no question refuses
+-- γ is any proper geometry
+module _ {γ : Geometry} (σ : Proper γ) where
+  -- ---- a command of kind k that no question refuses
 
-pub all-yes : (k j : Kind) (s : Box) (c : Command) → firstNo (questionsTo k s c) ≡ 0 → k ≡ j → AllYes (questionsTo j s c)
-all-yes k j s c e ej =
-    subst (λ (i : Kind). AllYes (questionsTo i s c)) ej (accepted-yes 11 (questionsTo k s c) (all-numbered k s c) e)
+  pub all-yes : (k j : Kind) (s : Box) (c : Command) → firstNo (questionsTo γ k s c) ≡ 0 → k ≡ j → AllYes (questionsTo γ j s c)
+  all-yes k j s c e ej =
+      subst (λ (i : Kind). AllYes (questionsTo γ i s c)) ej (accepted-yes 11 (questionsTo γ k s c) (all-numbered σ k s c) e)
 
--- what the effects ask for
-pub sound : (k : Kind) (s : Box) (c : Command) → AllYes (questionsTo k s c) → Sound (s .memory) (s .disk)
-sound k s c h = (h .0, passed k s c h .disk)
+  -- what the effects ask for
+  pub sound : (k : Kind) (s : Box) (c : Command) → AllYes (questionsTo γ k s c) → Sound γ (s .memory) (s .disk)
+  sound k s c h = (h .0, passed σ k s c h .disk)
 
-pub read-inside : (s : Box) (c : Command) → AllYes (questionsTo Read s c) → c .block < dataBlocks (groups (s .memory))
-read-inside s c h = ltb-true (c .block) (dataBlocks (groups (s .memory))) (passed Read s c h .range)
+  pub read-inside : (s : Box) (c : Command) → AllYes (questionsTo γ Read s c) → c .block < dataBlocks γ (groups γ (s .memory))
+  read-inside s c h = ltb-true (c .block) (dataBlocks γ (groups γ (s .memory))) (passed σ Read s c h .range)
 
-pub entry-inside : (s : Box) (c : Command) → AllYes (questionsTo Entry s c) → c .block < dataBlocks (groups (s .memory))
-entry-inside s c h = ltb-true (c .block) (dataBlocks (groups (s .memory))) (passed Entry s c h .range)
+  pub entry-inside : (s : Box) (c : Command) → AllYes (questionsTo γ Entry s c) → c .block < dataBlocks γ (groups γ (s .memory))
+  entry-inside s c h = ltb-true (c .block) (dataBlocks γ (groups γ (s .memory))) (passed σ Entry s c h .range)
 
-pub page-inside : (s : Box) (c : Command) → AllYes (questionsTo Page s c) → c .block < groups (s .memory)
-page-inside s c h = ltb-true (c .block) (groups (s .memory)) (passed Page s c h .range)
+  pub page-inside : (s : Box) (c : Command) → AllYes (questionsTo γ Page s c) → c .block < groups γ (s .memory)
+  page-inside s c h = ltb-true (c .block) (groups γ (s .memory)) (passed σ Page s c h .range)
 
-pub may-change : (u : Update) (s : Box) (c : Command) → AllYes (questionsTo (Change u) s c)
-    → MayChange u (s .memory) (c .block) (c .now) (c .proof)
-may-change u s c h =
-    let known = changes u s c h in
-    (passed (Change u) s c h .early, (known .proof, (known .unspent, known .within)))
+  pub may-change : (u : Update) (s : Box) (c : Command) → AllYes (questionsTo γ (Change u) s c)
+      → MayChange γ u (s .memory) (c .block) (c .now) (c .proof)
+  may-change u s c h =
+      let known = changes σ u s c h in
+      (passed σ (Change u) s c h .early, (known .proof, (known .unspent, known .within)))
 
--- an unknown kind is refused
-pub unknown-refused : (s : Box) (c : Command) → AllYes (questionsTo Unknown s c) → ⊥
-unknown-refused s c h = false≢true (h .1 .1 .0)
+  -- an unknown kind is refused
+  pub unknown-refused : (s : Box) (c : Command) → AllYes (questionsTo γ Unknown s c) → ⊥
+  unknown-refused s c h = false≢true (h .1 .1 .0)
 
--- the effect of a kind that is j
-pub carried : (k j : Kind) (s : Box) (c : Command) (now : ℕ) (o : Outcome) → k ≡ j → o ≡ accepted (λ t. effect j t c) s now
-    → o ≡ accepted (λ t. effect k t c) s now
-carried k j s c now o ej e = e ∙ ap (λ (i : Kind). accepted (λ t. effect i t c) s now) (sym ej)
+  -- the effect of a kind that is j
+  pub carried : (k j : Kind) (s : Box) (c : Command) (now : ℕ) (o : Outcome) → k ≡ j → o ≡ accepted γ (λ t. effect γ j t c) s now
+      → o ≡ accepted γ (λ t. effect γ k t c) s now
+  carried k j s c now o ej e = e ∙ ap (λ (i : Kind). accepted γ (λ t. effect γ i t c) s now) (sym ej)
 
--- ---- a command
+  -- ---- a command
 
--- k is the kind as it was found, and n the number that the questions gave
-module _ (m disk : List ℕ) (kind a now value : ℕ) (content proof answer : List ℕ) (k : Kind) (n : ℕ) (ek : k ≡ kindNumbered kind value)
-    (en : n ≡ firstNo (questionsTo k (boxOf m disk) (commandOf 0 a now 0 content proof answer))) where
-  abbrev box : Box
-  box = boxOf m disk
+  -- k is the kind as it was found, and n the number that the questions gave
+  module _ (m disk : List ℕ) (kind a now value : ℕ) (content proof answer : List ℕ) (k : Kind) (n : ℕ) (ek : k ≡ kindNumbered kind value)
+      (en : n ≡ firstNo (questionsTo γ k (boxOf m disk) (commandOf 0 a now 0 content proof answer))) where
+    abbrev box : Box
+    box = boxOf m disk
 
-  abbrev given : Command
-  given = commandOf kind a now value content proof answer
+    abbrev given : Command
+    given = commandOf kind a now value content proof answer
 
-  number : n ≡ refusal box given
-  unfolding refusal questions
-  number = en ∙ ap (λ (j : Kind). firstNo (questionsTo j box given)) ek
+    number : n ≡ refusal γ box given
+    unfolding refusal questions
+    number = en ∙ ap (λ (j : Kind). firstNo (questionsTo γ j box given)) ek
 
-  pub command-refused : (n ≡ 0 → ⊥) → outcomeOf n m disk answer ≡ step box given
-  command-refused h = refused-of box given n number h
+    pub command-refused : (n ≡ 0 → ⊥) → outcomeOf n m disk answer ≡ step γ box given
+    command-refused h = refused-of σ box given n number h
 
-  -- of the command's own kind and value an effect looks at nothing
-  effect-same : (j : Kind) (t : Box) → effect j t (commandOf 0 a now 0 content proof answer) ≡ effect j t given
-  unfolding effect change
-  effect-same Read t = refl
-  effect-same Entry t = refl
-  effect-same Page t = refl
-  effect-same (Change u) t = refl
-  effect-same Sync t = refl
-  effect-same Restart t = refl
-  effect-same NewSalt t = refl
-  effect-same Identify t = refl
-  effect-same Unknown t = refl
+    -- of the command's own kind and value an effect looks at nothing
+    effect-same : (j : Kind) (t : Box) → effect γ j t (commandOf 0 a now 0 content proof answer) ≡ effect γ j t given
+    unfolding effect change
+    effect-same Read t = refl
+    effect-same Entry t = refl
+    effect-same Page t = refl
+    effect-same (Change u) t = refl
+    effect-same Sync t = refl
+    effect-same Restart t = refl
+    effect-same NewSalt t = refl
+    effect-same Identify t = refl
+    effect-same Unknown t = refl
 
-  pub command-accepted : (memory after r : List ℕ) → n ≡ 0
-      → outcomeOf 0 memory after r ≡ accepted (λ t. effect k t (commandOf 0 a now 0 content proof answer)) box now
-      → outcomeOf n memory after r ≡ step box given
-  command-accepted memory after r z e =
-      ap (λ (i : ℕ). outcomeOf i memory after r) z
-      ∙ e
-      ∙ ap (done disk) (effect-same k (timed box now))
-      ∙ sym (step-accepted k box given (sym ek) (sym number ∙ z))
+    pub command-accepted : (memory after r : List ℕ) → n ≡ 0
+        → outcomeOf 0 memory after r ≡ accepted γ (λ t. effect γ k t (commandOf 0 a now 0 content proof answer)) box now
+        → outcomeOf n memory after r ≡ step γ box given
+    command-accepted memory after r z e =
+        ap (λ (i : ℕ). outcomeOf i memory after r) z
+        ∙ e
+        ∙ ap (done γ disk) (effect-same k (timed γ box now))
+        ∙ sym (step-accepted σ k box given (sym ek) (sym number ∙ z))

@@ -2,8 +2,8 @@
 ghost use mathlib.Core.Path.{_≡_};
 ghost use Prim.Native.Nat.{_≤_};
 ghost use lib.ListN.{length};
+ghost use Rattle.lockpage.specs.Geometry.{present};
 ghost use Rattle.addressing.specs.Map.{diskSize};
-ghost use Rattle.memory.specs.Layout.{mostGroups};
 ghost use Rattle.lockpage.specs.Page.{blankPage};
 ghost use Rattle.machine.specs.Command.{boxOf};
 ghost use Rattle.machine.specs.Question.{firstNo};
@@ -14,7 +14,7 @@ use memory::layout;
 
 // The number of the first question that says no, or 0: the groups and the memory's room, the disk, the salt.
 pub(crate) fn refusal(memory: &[u8], disk: &[u8], groups: u32, salt: &[u8]) -> u32
-    ensures { λ r. ⌜ r ≡ firstNo (formatQuestions (boxOf (now (memory .entry)) (now (disk .entry))) groups (now (salt .entry))) ⌝ }
+    ensures { λ r. ⌜ r ≡ firstNo (formatQuestions present (boxOf (now (memory .entry)) (now (disk .entry))) groups (now (salt .entry))) ⌝ }
 {
     if groups < 1 {
         return machine::MEMORY_INVALID;
@@ -36,8 +36,8 @@ pub(crate) fn refusal(memory: &[u8], disk: &[u8], groups: u32, salt: &[u8]) -> u
 
 // Stores a page on the disk as that of each group.
 fn store_pages(disk: &mut [u8], groups: u32, page: &[u8])
-    requires { ⌜ (length (now disk) ≡ diskSize groups) × ((groups ≤ mostGroups) × (now page ≡ blankPage)) ⌝ }
-    ensures { λ _. ⌜ now (disk .exit) ≡ stored (now (disk .entry)) (blankPages groups) ⌝ }
+    requires { ⌜ (length (now disk) ≡ diskSize present groups) × ((groups ≤ present .mostGroups) × (now page ≡ blankPage present)) ⌝ }
+    ensures { λ _. ⌜ now (disk .exit) ≡ stored present (now (disk .entry)) (blankPages present groups) ⌝ }
 {
     let mut g = 0;
     while g < groups {
@@ -48,8 +48,8 @@ fn store_pages(disk: &mut [u8], groups: u32, page: &[u8])
 
 // Makes the page of each group the blank one.
 pub(crate) fn store_blank_pages(disk: &mut [u8], groups: u32)
-    requires { ⌜ (length (now disk) ≡ diskSize groups) × (groups ≤ mostGroups) ⌝ }
-    ensures { λ _. ⌜ now (disk .exit) ≡ stored (now (disk .entry)) (blankPages groups) ⌝ }
+    requires { ⌜ (length (now disk) ≡ diskSize present groups) × (groups ≤ present .mostGroups) ⌝ }
+    ensures { λ _. ⌜ now (disk .exit) ≡ stored present (now (disk .entry)) (blankPages present groups) ⌝ }
 {
     let mut page = [0u8; PAGE_SIZE];
     lockpage::entries::store_blank(&mut page);

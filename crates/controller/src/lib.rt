@@ -3,6 +3,7 @@
 mod formatting;
 
 ghost use mathlib.Core.Path.{_≡_};
+ghost use Rattle.lockpage.specs.Geometry.{present};
 ghost use Rattle.machine.specs.Command.{boxOf, commandOf, outcomeOf};
 ghost use Rattle.machine.specs.Question.{questionsTo, firstNo};
 ghost use Rattle.machine.specs.Effect.{effect};
@@ -25,8 +26,8 @@ fn carry_out(
     proof: &[u8],
     answer: &mut [u8],
 )
-    requires { ⌜ firstNo (questionsTo k (boxOf (now memory) (now disk)) (commandOf 0 block time 0 (now content) (now proof) (now answer))) ≡ 0 ⌝ }
-    ensures { λ _. ⌜ outcomeOf 0 (now (memory .exit)) (now (disk .exit)) (now (answer .exit)) ≡ accepted (λ s. effect k s (commandOf 0 block time 0 (now (content .entry)) (now (proof .entry)) (now (answer .entry)))) (boxOf (now (memory .entry)) (now (disk .entry))) time ⌝ }
+    requires { ⌜ firstNo (questionsTo present k (boxOf (now memory) (now disk)) (commandOf 0 block time 0 (now content) (now proof) (now answer))) ≡ 0 ⌝ }
+    ensures { λ _. ⌜ outcomeOf 0 (now (memory .exit)) (now (disk .exit)) (now (answer .exit)) ≡ accepted present (λ s. effect present k s (commandOf 0 block time 0 (now (content .entry)) (now (proof .entry)) (now (answer .entry)))) (boxOf (now (memory .entry)) (now (disk .entry))) time ⌝ }
 {
     match k {
         Kind::Read => shows::read(memory, disk, block, time, answer),
@@ -53,7 +54,7 @@ pub fn command(
     proof: &[u8],
     answer: &mut [u8],
 ) -> u32
-    ensures { λ r. ⌜ outcomeOf r (now (memory .exit)) (now (disk .exit)) (now (answer .exit)) ≡ step (boxOf (now (memory .entry)) (now (disk .entry))) (commandOf kind block time value (now (content .entry)) (now (proof .entry)) (now (answer .entry))) ⌝ }
+    ensures { λ r. ⌜ outcomeOf r (now (memory .exit)) (now (disk .exit)) (now (answer .exit)) ≡ step present (boxOf (now (memory .entry)) (now (disk .entry))) (commandOf kind block time value (now (content .entry)) (now (proof .entry)) (now (answer .entry))) ⌝ }
 {
     let k = form::kinds::kind_numbered(kind, value);
     let number = questions::refusal(memory, disk, k, block, time, content, proof, answer);
@@ -66,7 +67,7 @@ pub fn command(
 
 // Formats a box: its number; where that is not 0, no byte is changed.
 pub fn format(memory: &mut [u8], disk: &mut [u8], groups: u32, salt: &[u8]) -> u32
-    ensures { λ r. ⌜ formattingOf r (now (memory .exit)) (now (disk .exit)) ≡ F.format (boxOf (now (memory .entry)) (now (disk .entry))) groups (now (salt .entry)) ⌝ }
+    ensures { λ r. ⌜ formattingOf r (now (memory .exit)) (now (disk .exit)) ≡ F.format present (boxOf (now (memory .entry)) (now (disk .entry))) groups (now (salt .entry)) ⌝ }
 {
     let refusal = formatting::refusal(memory, disk, groups, salt);
     if refusal != machine::ACCEPTED {

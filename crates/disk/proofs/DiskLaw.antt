@@ -11,87 +11,90 @@ use Rattle.octets.proofs.OrderLaw.{apart}
 use Rattle.octets.proofs.BelowLaw.{below-part, below-replaced}
 use Rattle.octets.proofs.PartLaw.{part-length, part-part}
 use Rattle.octets.proofs.ReplacedLaw.{replaced-length, part-same, part-other, replaced-within}
+use Rattle.lockpage.specs.Geometry.{Geometry, Proper}
 use Rattle.lockpage.specs.Size.{blockSize}
 use Rattle.addressing.specs.Map.{groupBlocks, groupSize, diskSize, dataBlocks, groupOf, groupStart, blockStart}
 use Rattle.disk.specs.Disk.{block, withBlock, stretch, withStretch, HasGroup}
 use Rattle.addressing.proofs.MapLaw.{blockStart-below, blockStart-end, blockStart-group, blockStart-place, groupStart-apart, groupStart-below, groupOf-below}
 
--- ---- blocks
+-- γ is any proper geometry
+module _ {γ : Geometry} (σ : Proper γ) where
+  -- ---- blocks
 
-module _ (l : List ℕ) (q : ℕ) (new : List ℕ) (size : length new ≡ blockSize) (room : blockStart q + blockSize ≤ length l) where
-  pub withBlock-length : length (withBlock l q new) ≡ length l
+  module _ (l : List ℕ) (q : ℕ) (new : List ℕ) (size : length new ≡ blockSize γ) (room : blockStart γ q + blockSize γ ≤ length l) where
+    pub withBlock-length : length (withBlock γ l q new) ≡ length l
+    unfolding withBlock
+    withBlock-length = replaced-length l (blockStart γ q) new (omega arith)
+
+    pub block-same : block γ (withBlock γ l q new) q ≡ new
+    unfolding block withBlock
+    block-same = part-same l (blockStart γ q) new (blockSize γ) size room
+
+    pub block-other : (p : ℕ) → (p ≡ q → ⊥) → block γ (withBlock γ l q new) p ≡ block γ l p
+    unfolding block withBlock
+    block-other p n = part-other l (blockStart γ q) new (blockStart γ p) (blockSize γ) (omega arith) (go (apart p q n))
+      where
+        go : (p < q) ⊎ (q < p) → (blockStart γ p + blockSize γ ≤ blockStart γ q) ⊎ (blockStart γ q + length new ≤ blockStart γ p)
+        go (inl h) = inl (blockStart-below σ p q h)
+        go (inr h) = inr (omega (arith, blockStart-below σ q p h))
+
+  pub block-length : (l : List ℕ) (p : ℕ) → blockStart γ p + blockSize γ ≤ length l → length (block γ l p) ≡ blockSize γ
+  unfolding block
+  block-length l p h = part-length l (blockStart γ p) (blockSize γ) h
+
+  pub block-are : (l : List ℕ) (p : ℕ) → AreBytes l → AreBytes (block γ l p)
+  unfolding block
+  block-are l p b = below-part 256 l (blockStart γ p) (blockSize γ) b
+
+  pub withBlock-are : (l : List ℕ) (p : ℕ) (new : List ℕ) → AreBytes l → AreBytes new → AreBytes (withBlock γ l p new)
   unfolding withBlock
-  withBlock-length = replaced-length l (blockStart q) new (omega arith)
+  withBlock-are l p new b c = below-replaced 256 l (blockStart γ p) new b c
 
-  pub block-same : block (withBlock l q new) q ≡ new
-  unfolding block withBlock
-  block-same = part-same l (blockStart q) new blockSize size room
+  -- a block below 65 × G has its bytes on the disk of G groups
+  pub block-room : (disk : List ℕ) (groups p : ℕ) → length disk ≡ diskSize γ groups → p < groupBlocks γ * groups
+      → blockStart γ p + blockSize γ ≤ length disk
+  block-room disk groups p l h = omega (arith, blockStart-below σ p (groupBlocks γ * groups) h, blockStart-end σ groups)
 
-  pub block-other : (p : ℕ) → (p ≡ q → ⊥) → block (withBlock l q new) p ≡ block l p
-  unfolding block withBlock
-  block-other p n = part-other l (blockStart q) new (blockStart p) blockSize (omega arith) (go (apart p q n))
-    where
-      go : (p < q) ⊎ (q < p) → (blockStart p + blockSize ≤ blockStart q) ⊎ (blockStart q + length new ≤ blockStart p)
-      go (inl h) = inl (blockStart-below p q h)
-      go (inr h) = inr (omega (arith, blockStart-below q p h))
+  -- ---- stretches
 
-pub block-length : (l : List ℕ) (p : ℕ) → blockStart p + blockSize ≤ length l → length (block l p) ≡ blockSize
-unfolding block
-block-length l p h = part-length l (blockStart p) blockSize h
+  pub hasGroup : (disk : List ℕ) (groups g : ℕ) → length disk ≡ diskSize γ groups → g < groups → HasGroup γ disk g
+  unfolding HasGroup
+  hasGroup disk groups g l h = omega (arith, groupStart-below σ groups g h)
 
-pub block-are : (l : List ℕ) (p : ℕ) → AreBytes l → AreBytes (block l p)
-unfolding block
-block-are l p b = below-part 256 l (blockStart p) blockSize b
+  -- the group of a data block
+  pub hasGroup-of : (disk : List ℕ) (groups a : ℕ) → length disk ≡ diskSize γ groups → a < dataBlocks γ groups → HasGroup γ disk (groupOf γ a)
+  hasGroup-of disk groups a l h = hasGroup disk groups (groupOf γ a) l (groupOf-below σ groups a h)
 
-pub withBlock-are : (l : List ℕ) (p : ℕ) (new : List ℕ) → AreBytes l → AreBytes new → AreBytes (withBlock l p new)
-unfolding withBlock
-withBlock-are l p new b c = below-replaced 256 l (blockStart p) new b c
+  module _ (disk : List ℕ) (g : ℕ) (has : HasGroup γ disk g) where
+    pub stretch-length : length (stretch γ disk g) ≡ groupSize γ
+    unfolding stretch HasGroup
+    stretch-length = part-length disk (groupStart γ g) (groupSize γ) has
 
--- a block below 65 × G has its bytes on the disk of G groups
-pub block-room : (disk : List ℕ) (groups p : ℕ) → length disk ≡ diskSize groups → p < groupBlocks * groups
-    → blockStart p + blockSize ≤ length disk
-block-room disk groups p l h = omega (arith, blockStart-below p (groupBlocks * groups) h, blockStart-end groups)
+    pub stretch-same : (new : List ℕ) → length new ≡ groupSize γ → stretch γ (withStretch γ disk g new) g ≡ new
+    unfolding stretch withStretch HasGroup
+    stretch-same new s = part-same disk (groupStart γ g) new (groupSize γ) s has
 
--- ---- stretches
+    pub stretch-other : (new : List ℕ) → length new ≡ groupSize γ → (h : ℕ) → (h ≡ g → ⊥)
+        → stretch γ (withStretch γ disk g new) h ≡ stretch γ disk h
+    unfolding stretch withStretch HasGroup
+    stretch-other new s h n = part-other disk (groupStart γ g) new (groupStart γ h) (groupSize γ) (omega arith) (go (apart h g n))
+      where
+        go : (h < g) ⊎ (g < h) → (groupStart γ h + groupSize γ ≤ groupStart γ g) ⊎ (groupStart γ g + length new ≤ groupStart γ h)
+        go (inl k) = inl (groupStart-apart σ h g k)
+        go (inr k) = inr (omega (arith, groupStart-apart σ g h k))
 
-pub hasGroup : (disk : List ℕ) (groups g : ℕ) → length disk ≡ diskSize groups → g < groups → HasGroup disk g
-unfolding HasGroup
-hasGroup disk groups g l h = omega (arith, groupStart-below groups g h)
+    module _ (place : ℕ) (h : place < groupBlocks γ) where
+      -- a block read within the stretch is read on the disk
+      pub block-in-stretch : block γ (stretch γ disk g) place ≡ block γ disk (groupBlocks γ * g + place)
+      unfolding block stretch
+      block-in-stretch =
+          part-part disk (groupStart γ g) (groupSize γ) (blockStart γ place) (blockSize γ) (blockStart-place σ place h)
+          ∙ ap (λ (at : ℕ). part disk at (blockSize γ)) (sym (blockStart-group σ g place))
 
--- the group of a data block
-pub hasGroup-of : (disk : List ℕ) (groups a : ℕ) → length disk ≡ diskSize groups → a < dataBlocks groups → HasGroup disk (groupOf a)
-hasGroup-of disk groups a l h = hasGroup disk groups (groupOf a) l (groupOf-below groups a h)
-
-module _ (disk : List ℕ) (g : ℕ) (has : HasGroup disk g) where
-  pub stretch-length : length (stretch disk g) ≡ groupSize
-  unfolding stretch HasGroup
-  stretch-length = part-length disk (groupStart g) groupSize has
-
-  pub stretch-same : (new : List ℕ) → length new ≡ groupSize → stretch (withStretch disk g new) g ≡ new
-  unfolding stretch withStretch HasGroup
-  stretch-same new s = part-same disk (groupStart g) new groupSize s has
-
-  pub stretch-other : (new : List ℕ) → length new ≡ groupSize → (h : ℕ) → (h ≡ g → ⊥)
-      → stretch (withStretch disk g new) h ≡ stretch disk h
-  unfolding stretch withStretch HasGroup
-  stretch-other new s h n = part-other disk (groupStart g) new (groupStart h) groupSize (omega arith) (go (apart h g n))
-    where
-      go : (h < g) ⊎ (g < h) → (groupStart h + groupSize ≤ groupStart g) ⊎ (groupStart g + length new ≤ groupStart h)
-      go (inl k) = inl (groupStart-apart h g k)
-      go (inr k) = inr (omega (arith, groupStart-apart g h k))
-
-  module _ (place : ℕ) (h : place < groupBlocks) where
-    -- a block read within the stretch is read on the disk
-    pub block-in-stretch : block (stretch disk g) place ≡ block disk (groupBlocks * g + place)
-    unfolding block stretch
-    block-in-stretch =
-        part-part disk (groupStart g) groupSize (blockStart place) blockSize (blockStart-place place h)
-        ∙ ap (λ (at : ℕ). part disk at blockSize) (sym (blockStart-group g place))
-
-    -- a block stored within the stretch is stored on the disk
-    pub stored-in-stretch : (new : List ℕ) → length new ≡ blockSize
-        → withStretch disk g (withBlock (stretch disk g) place new) ≡ withBlock disk (groupBlocks * g + place) new
-    unfolding withBlock withStretch stretch HasGroup
-    stored-in-stretch new s =
-        replaced-within disk (groupStart g) groupSize (blockStart place) new has (omega (arith, blockStart-place place h))
-        ∙ ap (λ (at : ℕ). replaced disk at new) (sym (blockStart-group g place))
+      -- a block stored within the stretch is stored on the disk
+      pub stored-in-stretch : (new : List ℕ) → length new ≡ blockSize γ
+          → withStretch γ disk g (withBlock γ (stretch γ disk g) place new) ≡ withBlock γ disk (groupBlocks γ * g + place) new
+      unfolding withBlock withStretch stretch HasGroup
+      stored-in-stretch new s =
+          replaced-within disk (groupStart γ g) (groupSize γ) (blockStart γ place) new has (omega (arith, blockStart-place σ place h))
+          ∙ ap (λ (at : ℕ). replaced disk at new) (sym (blockStart-group σ g place))

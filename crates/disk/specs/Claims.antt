@@ -3,11 +3,14 @@ use Prim.Native.Nat.{ℕ, _+_, _*_, _<_}
 use mathlib.Core.Path.{_≡_}
 use mathlib.Core.List.{List}
 use lib.ListN.{length}
+use Rattle.lockpage.specs.Geometry.{Geometry}
 use Rattle.lockpage.specs.Size.{blockSize}
 use Rattle.addressing.specs.Map.{groupBlocks}
 use Rattle.disk.specs.Disk.{withBlock, stretch, withStretch, HasGroup}
 
--- a block stored within a group's stretch, and the stretch put back, is that block stored on the disk
-unfoldable pub StoredInStretch : Type 0
-StoredInStretch = (disk : List ℕ) (g place : ℕ) (new : List ℕ) → HasGroup disk g → place < groupBlocks → length new ≡ blockSize
-    → withStretch disk g (withBlock (stretch disk g) place new) ≡ withBlock disk (groupBlocks * g + place) new
+-- γ is the box's geometry
+module _ (γ : Geometry) where
+  -- a block stored within a group's stretch, and the stretch put back, is that block stored on the disk
+  unfoldable pub StoredInStretch : Type 0
+  StoredInStretch = (disk : List ℕ) (g place : ℕ) (new : List ℕ) → HasGroup γ disk g → place < groupBlocks γ → length new ≡ blockSize γ
+      → withStretch γ disk g (withBlock γ (stretch γ disk g) place new) ≡ withBlock γ disk (groupBlocks γ * g + place) new

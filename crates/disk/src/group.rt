@@ -2,7 +2,8 @@
 ghost use mathlib.Core.Path.{_≡_};
 ghost use Prim.Native.Nat.{_<_};
 ghost use lib.ListN.{length};
-ghost use Rattle.lockpage.specs.Size.{blockSize, entriesPerPage};
+ghost use Rattle.lockpage.specs.Geometry.{present};
+ghost use Rattle.lockpage.specs.Size.{blockSize};
 ghost use Rattle.lockpage.specs.Page.{entryAt};
 ghost use Rattle.addressing.specs.Map.{groupBlocks, groupSize, pagePlace};
 ghost use Rattle.disk.specs.Disk.{block, withBlock};
@@ -10,8 +11,8 @@ use lockpage::Entry;
 
 // Copies the block at a place into out.
 pub fn read_block(group: &[u8], place: usize, out: &mut [u8])
-    requires { ⌜ (place < groupBlocks) × ((length (now group) ≡ groupSize) × (length (now out) ≡ blockSize)) ⌝ }
-    ensures { λ _. ⌜ now (out .exit) ≡ block (now (group .entry)) place ⌝ }
+    requires { ⌜ (place < groupBlocks present) × ((length (now group) ≡ groupSize present) × (length (now out) ≡ blockSize present)) ⌝ }
+    ensures { λ _. ⌜ now (out .exit) ≡ block present (now (group .entry)) place ⌝ }
 {
     let from = addressing::block_start(place);
     octets::copy(group, from, out, 0, addressing::BLOCK_SIZE);
@@ -19,8 +20,8 @@ pub fn read_block(group: &[u8], place: usize, out: &mut [u8])
 
 // Stores the block at a place: its part of the stretch is lent on to be written.
 pub fn store_block(group: &mut [u8], place: usize, content: &[u8])
-    requires { ⌜ (place < groupBlocks) × ((length (now group) ≡ groupSize) × (length (now content) ≡ blockSize)) ⌝ }
-    ensures { λ _. ⌜ now (group .exit) ≡ withBlock (now (group .entry)) place (now (content .entry)) ⌝ }
+    requires { ⌜ (place < groupBlocks present) × ((length (now group) ≡ groupSize present) × (length (now content) ≡ blockSize present)) ⌝ }
+    ensures { λ _. ⌜ now (group .exit) ≡ withBlock present (now (group .entry)) place (now (content .entry)) ⌝ }
 {
     let from = addressing::block_start(place);
     let to = from + addressing::BLOCK_SIZE;
@@ -29,24 +30,24 @@ pub fn store_block(group: &mut [u8], place: usize, content: &[u8])
 
 // Copies the page into out.
 pub fn read_page(group: &[u8], out: &mut [u8])
-    requires { ⌜ (length (now group) ≡ groupSize) × (length (now out) ≡ blockSize) ⌝ }
-    ensures { λ _. ⌜ now (out .exit) ≡ block (now (group .entry)) pagePlace ⌝ }
+    requires { ⌜ (length (now group) ≡ groupSize present) × (length (now out) ≡ blockSize present) ⌝ }
+    ensures { λ _. ⌜ now (out .exit) ≡ block present (now (group .entry)) (pagePlace present) ⌝ }
 {
     read_block(group, addressing::PAGE_PLACE, out);
 }
 
 // Stores the page.
 pub fn store_page(group: &mut [u8], page: &[u8])
-    requires { ⌜ (length (now group) ≡ groupSize) × (length (now page) ≡ blockSize) ⌝ }
-    ensures { λ _. ⌜ now (group .exit) ≡ withBlock (now (group .entry)) pagePlace (now (page .entry)) ⌝ }
+    requires { ⌜ (length (now group) ≡ groupSize present) × (length (now page) ≡ blockSize present) ⌝ }
+    ensures { λ _. ⌜ now (group .exit) ≡ withBlock present (now (group .entry)) (pagePlace present) (now (page .entry)) ⌝ }
 {
     store_block(group, addressing::PAGE_PLACE, page);
 }
 
 // Entry i of the page.
 pub fn load_entry(group: &[u8], i: usize) -> Entry
-    requires { ⌜ (length (now group) ≡ groupSize) × (i < entriesPerPage) ⌝ }
-    ensures { λ r. ⌜ r ≡ entryAt (block (now (group .entry)) pagePlace) i ⌝ }
+    requires { ⌜ (length (now group) ≡ groupSize present) × (i < present .entries) ⌝ }
+    ensures { λ r. ⌜ r ≡ entryAt (block present (now (group .entry)) (pagePlace present)) i ⌝ }
 {
     let from = addressing::block_start(addressing::PAGE_PLACE);
     let to = from + addressing::BLOCK_SIZE;

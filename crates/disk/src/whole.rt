@@ -2,7 +2,8 @@
 ghost use mathlib.Core.Path.{_≡_};
 ghost use Prim.Native.Nat.{_<_};
 ghost use lib.ListN.{length};
-ghost use Rattle.lockpage.specs.Size.{blockSize, entriesPerPage};
+ghost use Rattle.lockpage.specs.Geometry.{present};
+ghost use Rattle.lockpage.specs.Size.{blockSize};
 ghost use Rattle.lockpage.specs.Page.{entryAt};
 ghost use Rattle.addressing.specs.Map.{groupOf, physical, pageBlock};
 ghost use Rattle.disk.specs.Disk.{block as blockAt, withBlock, stretch as stretchOf, HasGroup};
@@ -10,8 +11,8 @@ use lockpage::Entry;
 
 // A group's stretch of the disk, to be read.
 pub fn stretch(disk: &[u8], group: u32) -> &[u8]
-    requires { ⌜ HasGroup (now disk) group ⌝ }
-    ensures { λ r. ⌜ now r ≡ stretchOf (now (disk .entry)) group ⌝ }
+    requires { ⌜ HasGroup present (now disk) group ⌝ }
+    ensures { λ r. ⌜ now r ≡ stretchOf present (now (disk .entry)) group ⌝ }
 {
     let from = addressing::group_start(group);
     let to = from + addressing::GROUP_SIZE;
@@ -20,8 +21,8 @@ pub fn stretch(disk: &[u8], group: u32) -> &[u8]
 
 // Copies a data block into out.
 pub fn read_block(disk: &[u8], block: u32, out: &mut [u8])
-    requires { ⌜ HasGroup (now disk) (groupOf block) × (length (now out) ≡ blockSize) ⌝ }
-    ensures { λ _. ⌜ now (out .exit) ≡ blockAt (now (disk .entry)) (physical block) ⌝ }
+    requires { ⌜ HasGroup present (now disk) (groupOf present block) × (length (now out) ≡ blockSize present) ⌝ }
+    ensures { λ _. ⌜ now (out .exit) ≡ blockAt present (now (disk .entry)) (physical present block) ⌝ }
 {
     let group = stretch(disk, addressing::group_of(block));
     crate::group::read_block(group, addressing::place_of(block), out);
@@ -29,8 +30,8 @@ pub fn read_block(disk: &[u8], block: u32, out: &mut [u8])
 
 // Stores a data block.
 pub fn store_block(disk: &mut [u8], block: u32, content: &[u8])
-    requires { ⌜ HasGroup (now disk) (groupOf block) × (length (now content) ≡ blockSize) ⌝ }
-    ensures { λ _. ⌜ now (disk .exit) ≡ withBlock (now (disk .entry)) (physical block) (now (content .entry)) ⌝ }
+    requires { ⌜ HasGroup present (now disk) (groupOf present block) × (length (now content) ≡ blockSize present) ⌝ }
+    ensures { λ _. ⌜ now (disk .exit) ≡ withBlock present (now (disk .entry)) (physical present block) (now (content .entry)) ⌝ }
 {
     let from = addressing::group_start(addressing::group_of(block));
     let to = from + addressing::GROUP_SIZE;
@@ -40,16 +41,16 @@ pub fn store_block(disk: &mut [u8], block: u32, content: &[u8])
 
 // Copies a group's page into out.
 pub fn read_page(disk: &[u8], group: u32, out: &mut [u8])
-    requires { ⌜ HasGroup (now disk) group × (length (now out) ≡ blockSize) ⌝ }
-    ensures { λ _. ⌜ now (out .exit) ≡ blockAt (now (disk .entry)) (pageBlock group) ⌝ }
+    requires { ⌜ HasGroup present (now disk) group × (length (now out) ≡ blockSize present) ⌝ }
+    ensures { λ _. ⌜ now (out .exit) ≡ blockAt present (now (disk .entry)) (pageBlock present group) ⌝ }
 {
     crate::group::read_page(stretch(disk, group), out);
 }
 
 // Stores a group's page.
 pub fn store_page(disk: &mut [u8], group: u32, page: &[u8])
-    requires { ⌜ HasGroup (now disk) group × (length (now page) ≡ blockSize) ⌝ }
-    ensures { λ _. ⌜ now (disk .exit) ≡ withBlock (now (disk .entry)) (pageBlock group) (now (page .entry)) ⌝ }
+    requires { ⌜ HasGroup present (now disk) group × (length (now page) ≡ blockSize present) ⌝ }
+    ensures { λ _. ⌜ now (disk .exit) ≡ withBlock present (now (disk .entry)) (pageBlock present group) (now (page .entry)) ⌝ }
 {
     let from = addressing::group_start(group);
     let to = from + addressing::GROUP_SIZE;
@@ -58,8 +59,8 @@ pub fn store_page(disk: &mut [u8], group: u32, page: &[u8])
 
 // Entry i of a group's page.
 pub fn load_entry(disk: &[u8], group: u32, i: usize) -> Entry
-    requires { ⌜ HasGroup (now disk) group × (i < entriesPerPage) ⌝ }
-    ensures { λ r. ⌜ r ≡ entryAt (blockAt (now (disk .entry)) (pageBlock group)) i ⌝ }
+    requires { ⌜ HasGroup present (now disk) group × (i < present .entries) ⌝ }
+    ensures { λ r. ⌜ r ≡ entryAt (blockAt present (now (disk .entry)) (pageBlock present group)) i ⌝ }
 {
     crate::group::load_entry(stretch(disk, group), i)
 }

@@ -2,9 +2,10 @@
 ghost use mathlib.Core.Path.{_≡_};
 ghost use Prim.Native.Nat.{_<_};
 ghost use lib.ListN.{length};
+ghost use Rattle.lockpage.specs.Geometry.{present};
 ghost use Rattle.addressing.specs.Map.{dataBlocks, groupOf};
 ghost use Rattle.disk.specs.Disk.{HasGroup};
-ghost use Rattle.memory.specs.Layout.{memorySize, mostGroups};
+ghost use Rattle.memory.specs.Layout.{memorySize};
 ghost use Rattle.memory.specs.Memory.{groups};
 ghost use Rattle.machine.specs.declared.Kind.the-variants.{Change};
 ghost use Rattle.machine.specs.Command.{broughtPage, boxOf, commandOf, outcomeOf};
@@ -19,8 +20,8 @@ use lockpage::Update;
 
 // A write stores its content.
 fn put_content(disk: &mut [u8], u: Update, block: u32, content: &[u8])
-    requires { ⌜ HasGroup (now disk) (groupOf block) × (length (now content) ≡ contentLength (Change u)) ⌝ }
-    ensures { λ _. ⌜ now (disk .exit) ≡ stored (now (disk .entry)) (putContent u block (now (content .entry))) ⌝ }
+    requires { ⌜ HasGroup present (now disk) (groupOf present block) × (length (now content) ≡ contentLength present (Change u)) ⌝ }
+    ensures { λ _. ⌜ now (disk .exit) ≡ stored present (now (disk .entry)) (putContent present u block (now (content .entry))) ⌝ }
 {
     match u {
         Update::Write(_) => disk::whole::store_block(disk, block, content),
@@ -31,8 +32,8 @@ fn put_content(disk: &mut [u8], u: Update, block: u32, content: &[u8])
 
 // The brought page with the block's entry updated becomes the held one, and its group's count rises.
 fn hold_changed(memory: &mut [u8], u: Update, block: u32, time: u32, proof: &[u8])
-    requires { ⌜ (length (now memory) ≡ memorySize) × ((groupOf block < mostGroups) × MayChange u (now memory) block time (now proof)) ⌝ }
-    ensures { λ _. ⌜ now (memory .exit) ≡ changedMemory (now (memory .entry)) (groupOf block) (updatedPage u (broughtPage (now (proof .entry))) block time) ⌝ }
+    requires { ⌜ (length (now memory) ≡ memorySize present) × ((groupOf present block < present .mostGroups) × MayChange present u (now memory) block time (now proof)) ⌝ }
+    ensures { λ _. ⌜ now (memory .exit) ≡ changedMemory present (now (memory .entry)) (groupOf present block) (updatedPage present u (broughtPage present (now (proof .entry))) block time) ⌝ }
 {
     let group = addressing::group_of(block);
     let place = addressing::place_of(block);
@@ -54,8 +55,8 @@ pub fn change(
     proof: &[u8],
     answer: &mut [u8],
 )
-    requires { ⌜ Sound (now memory) (now disk) × ((block < dataBlocks (groups (now memory))) × ((length (now content) ≡ contentLength (Change u)) × (MayChange u (now memory) block time (now proof) × Room (now answer)))) ⌝ }
-    ensures { λ _. ⌜ outcomeOf 0 (now (memory .exit)) (now (disk .exit)) (now (answer .exit)) ≡ accepted (λ s. E.change u s (commandOf 0 block time 0 (now (content .entry)) (now (proof .entry)) (now (answer .entry)))) (boxOf (now (memory .entry)) (now (disk .entry))) time ⌝ }
+    requires { ⌜ Sound present (now memory) (now disk) × ((block < dataBlocks present (groups present (now memory))) × ((length (now content) ≡ contentLength present (Change u)) × (MayChange present u (now memory) block time (now proof) × Room present (now answer)))) ⌝ }
+    ensures { λ _. ⌜ outcomeOf 0 (now (memory .exit)) (now (disk .exit)) (now (answer .exit)) ≡ accepted present (λ s. E.change present u s (commandOf 0 block time 0 (now (content .entry)) (now (proof .entry)) (now (answer .entry)))) (boxOf (now (memory .entry)) (now (disk .entry))) time ⌝ }
 {
     let group = addressing::group_of(block);
     memory::set_last_time(memory, time);

@@ -2,6 +2,7 @@
 ghost use mathlib.Core.Path.{_≡_};
 ghost use mathlib.Core.Bool.{true};
 ghost use lib.ListN.{length};
+ghost use Rattle.lockpage.specs.Geometry.{present};
 ghost use Rattle.addressing.specs.Map.{groupSize, pagePlace};
 ghost use Rattle.memory.specs.Layout.{memorySize};
 ghost use Rattle.memory.specs.Memory.{heldPage};
@@ -14,8 +15,8 @@ use memory::layout::NONE;
 
 // Puts the held page into a group's stretch of the disk: the page's part in its middle is lent on to be written.
 fn put_page(group: &mut [u8], memory: &[u8])
-    requires { ⌜ (length (now group) ≡ groupSize) × (length (now memory) ≡ memorySize) ⌝ }
-    ensures { λ _. ⌜ now (group .exit) ≡ withBlock (now (group .entry)) pagePlace (heldPage (now (memory .entry))) ⌝ }
+    requires { ⌜ (length (now group) ≡ groupSize present) × (length (now memory) ≡ memorySize present) ⌝ }
+    ensures { λ _. ⌜ now (group .exit) ≡ withBlock present (now (group .entry)) (pagePlace present) (heldPage present (now (memory .entry))) ⌝ }
 {
     let from = addressing::block_start(addressing::PAGE_PLACE);
     let to = from + addressing::BLOCK_SIZE;
@@ -24,8 +25,8 @@ fn put_page(group: &mut [u8], memory: &[u8])
 
 // Puts the held page, if any, on the disk.
 pub(crate) fn put_held(memory: &[u8], disk: &mut [u8])
-    requires { ⌜ Sound (now memory) (now disk) ⌝ }
-    ensures { λ _. ⌜ now (disk .exit) ≡ stored (now (disk .entry)) (putHeld (now (memory .entry))) ⌝ }
+    requires { ⌜ Sound present (now memory) (now disk) ⌝ }
+    ensures { λ _. ⌜ now (disk .exit) ≡ stored present (now (disk .entry)) (putHeld present (now (memory .entry))) ⌝ }
 {
     let held = memory::held(memory);
     if held == NONE as u32 {
@@ -38,8 +39,8 @@ pub(crate) fn put_held(memory: &[u8], disk: &mut [u8])
 
 // The same, if it is another group's.
 pub(crate) fn evict(memory: &[u8], disk: &mut [u8], group: u32)
-    requires { ⌜ Sound (now memory) (now disk) ⌝ }
-    ensures { λ _. ⌜ now (disk .exit) ≡ stored (now (disk .entry)) (E.evict (now (memory .entry)) group) ⌝ }
+    requires { ⌜ Sound present (now memory) (now disk) ⌝ }
+    ensures { λ _. ⌜ now (disk .exit) ≡ stored present (now (disk .entry)) (E.evict present (now (memory .entry)) group) ⌝ }
 {
     if memory::held(memory) == group {
         return;
@@ -49,8 +50,8 @@ pub(crate) fn evict(memory: &[u8], disk: &mut [u8], group: u32)
 
 // The held page, if any, is lost.
 pub(crate) fn lose_held(memory: &mut [u8])
-    requires { ⌜ valid (now memory) ≡ true ⌝ }
-    ensures { λ _. ⌜ now (memory .exit) ≡ restarted (now (memory .entry)) ⌝ }
+    requires { ⌜ valid present (now memory) ≡ true ⌝ }
+    ensures { λ _. ⌜ now (memory .exit) ≡ restarted present (now (memory .entry)) ⌝ }
 {
     let group = memory::held(memory);
     if group == NONE as u32 {

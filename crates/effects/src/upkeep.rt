@@ -3,6 +3,7 @@ ghost use mathlib.Core.Path.{_≡_};
 ghost use mathlib.Core.Bool.{true};
 ghost use Prim.Native.Nat.{_≤_};
 ghost use lib.ListN.{length};
+ghost use Rattle.lockpage.specs.Geometry.{present};
 ghost use Rattle.lockpage.specs.Update.{latestTime};
 ghost use Rattle.memory.specs.Layout.{saltSize};
 ghost use Rattle.validity.specs.Valid.{valid};
@@ -16,8 +17,8 @@ use answers::room;
 
 // Kind 7.
 pub fn sync(memory: &mut [u8], disk: &mut [u8], time: u32, answer: &mut [u8])
-    requires { ⌜ Sound (now memory) (now disk) × ((time ≤ latestTime) × Room (now answer)) ⌝ }
-    ensures { λ _. ⌜ outcomeOf 0 (now (memory .exit)) (now (disk .exit)) (now (answer .exit)) ≡ accepted E.sync (boxOf (now (memory .entry)) (now (disk .entry))) time ⌝ }
+    requires { ⌜ Sound present (now memory) (now disk) × ((time ≤ latestTime) × Room present (now answer)) ⌝ }
+    ensures { λ _. ⌜ outcomeOf 0 (now (memory .exit)) (now (disk .exit)) (now (answer .exit)) ≡ accepted present (E.sync present) (boxOf (now (memory .entry)) (now (disk .entry))) time ⌝ }
 {
     memory::set_last_time(memory, time);
     held::put_held(memory, disk);
@@ -27,8 +28,8 @@ pub fn sync(memory: &mut [u8], disk: &mut [u8], time: u32, answer: &mut [u8])
 
 // Kind 8, whatever the disk.
 pub fn restart(memory: &mut [u8], time: u32, answer: &mut [u8])
-    requires { ⌜ (valid (now memory) ≡ true) × ((time ≤ latestTime) × Room (now answer)) ⌝ }
-    ensures { λ _. ⌜ OnEveryDisk E.restart (now (memory .entry)) time (now (memory .exit)) (now (answer .exit)) ⌝ }
+    requires { ⌜ (valid present (now memory) ≡ true) × ((time ≤ latestTime) × Room present (now answer)) ⌝ }
+    ensures { λ _. ⌜ OnEveryDisk present (E.restart present) (now (memory .entry)) time (now (memory .exit)) (now (answer .exit)) ⌝ }
 {
     memory::set_last_time(memory, time);
     held::lose_held(memory);
@@ -37,8 +38,8 @@ pub fn restart(memory: &mut [u8], time: u32, answer: &mut [u8])
 
 // Kind 9: a sync first.
 pub fn new_salt(memory: &mut [u8], disk: &mut [u8], time: u32, content: &[u8], answer: &mut [u8])
-    requires { ⌜ Sound (now memory) (now disk) × ((time ≤ latestTime) × ((length (now content) ≡ saltSize) × Room (now answer))) ⌝ }
-    ensures { λ _. ⌜ outcomeOf 0 (now (memory .exit)) (now (disk .exit)) (now (answer .exit)) ≡ accepted (λ s. newSalt s (now (content .entry))) (boxOf (now (memory .entry)) (now (disk .entry))) time ⌝ }
+    requires { ⌜ Sound present (now memory) (now disk) × ((time ≤ latestTime) × ((length (now content) ≡ saltSize) × Room present (now answer))) ⌝ }
+    ensures { λ _. ⌜ outcomeOf 0 (now (memory .exit)) (now (disk .exit)) (now (answer .exit)) ≡ accepted present (λ s. newSalt present s (now (content .entry))) (boxOf (now (memory .entry)) (now (disk .entry))) time ⌝ }
 {
     sync(memory, disk, time, answer);
     memory::clear_counts(memory);

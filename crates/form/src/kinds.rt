@@ -1,5 +1,6 @@
 // What the questions know of a kind: its number, and the lengths of what it brings.
 ghost use mathlib.Core.Path.{_≡_};
+ghost use Rattle.lockpage.specs.Geometry.{present};
 ghost use Rattle.machine.specs.Command.{kindNumbered};
 ghost use Rattle.machine.specs.Question.{question3, contentLength, proofLength, passes};
 use lockpage::Update;
@@ -26,7 +27,7 @@ pub fn kind_numbered(n: u32, value: u32) -> Kind
 
 // Question 3.
 pub(crate) fn is_known(k: Kind) -> bool
-    ensures { λ r. ⌜ r ≡ passes (question3 k) ⌝ }
+    ensures { λ r. ⌜ r ≡ passes (question3 present k) ⌝ }
 {
     match k {
         Kind::Read => true,
@@ -43,7 +44,7 @@ pub(crate) fn is_known(k: Kind) -> bool
 
 // The length of the content that a kind brings.
 pub fn content_length(k: Kind) -> usize
-    ensures { λ r. ⌜ r ≡ contentLength k ⌝ }
+    ensures { λ r. ⌜ r ≡ contentLength present k ⌝ }
 {
     match k {
         Kind::Read => 0,
@@ -59,7 +60,7 @@ pub fn content_length(k: Kind) -> usize
 }
 
 fn update_length(u: Update) -> usize
-    ensures { λ r. ⌜ r ≡ contentLength (Kind.Change u) ⌝ }
+    ensures { λ r. ⌜ r ≡ contentLength present (Kind.Change u) ⌝ }
 {
     match u {
         Update::Write(_) => addressing::BLOCK_SIZE,
@@ -70,7 +71,7 @@ fn update_length(u: Update) -> usize
 
 // The length of the proof that it brings.
 pub fn proof_length(k: Kind) -> usize
-    ensures { λ r. ⌜ r ≡ proofLength k ⌝ }
+    ensures { λ r. ⌜ r ≡ proofLength present k ⌝ }
 {
     match k {
         Kind::Read => 0,

@@ -4,6 +4,7 @@ pub mod kinds;
 
 ghost use mathlib.Core.Path.{_≡_};
 ghost use lib.ListN.{length};
+ghost use Rattle.lockpage.specs.Geometry.{present};
 ghost use Rattle.memory.specs.Layout.{memorySize};
 ghost use Rattle.machine.specs.Question.{question2, question4, question5, question6, passes, firstNo};
 ghost use Rattle.form.specs.Parts.{formQuestions};
@@ -11,16 +12,16 @@ use machine::Kind;
 
 // Question 2.
 fn disk_fits(memory: &[u8], disk: &[u8]) -> bool
-    requires { ⌜ length (now memory) ≡ memorySize ⌝ }
-    ensures { λ r. ⌜ r ≡ passes (question2 (now (memory .entry)) (now (disk .entry))) ⌝ }
+    requires { ⌜ length (now memory) ≡ memorySize present ⌝ }
+    ensures { λ r. ⌜ r ≡ passes (question2 present (now (memory .entry)) (now (disk .entry))) ⌝ }
 {
     disk.len() == addressing::disk_size(memory::groups(memory))
 }
 
 // Question 4.
 fn is_timely(memory: &[u8], time: u32) -> bool
-    requires { ⌜ length (now memory) ≡ memorySize ⌝ }
-    ensures { λ r. ⌜ r ≡ passes (question4 (now (memory .entry)) time) ⌝ }
+    requires { ⌜ length (now memory) ≡ memorySize present ⌝ }
+    ensures { λ r. ⌜ r ≡ passes (question4 present (now (memory .entry)) time) ⌝ }
 {
     if time < memory::last_time(memory) {
         return false;
@@ -30,7 +31,7 @@ fn is_timely(memory: &[u8], time: u32) -> bool
 
 // Question 5: the block of the kinds that have one, the group of a page.
 fn is_inside(k: Kind, groups: u32, block: u32) -> bool
-    ensures { λ r. ⌜ r ≡ passes (question5 k groups block) ⌝ }
+    ensures { λ r. ⌜ r ≡ passes (question5 present k groups block) ⌝ }
 {
     let blocks = addressing::data_blocks(groups);
     match k {
@@ -48,7 +49,7 @@ fn is_inside(k: Kind, groups: u32, block: u32) -> bool
 
 // Question 6.
 fn is_sized(k: Kind, content: &[u8], proof: &[u8], answer: &[u8]) -> bool
-    ensures { λ r. ⌜ r ≡ passes (question6 k (now (content .entry)) (now (proof .entry)) (now (answer .entry))) ⌝ }
+    ensures { λ r. ⌜ r ≡ passes (question6 present k (now (content .entry)) (now (proof .entry)) (now (answer .entry))) ⌝ }
 {
     if content.len() != kinds::content_length(k) {
         return false;
@@ -70,8 +71,8 @@ pub fn refusal(
     proof: &[u8],
     answer: &[u8],
 ) -> u32
-    requires { ⌜ length (now memory) ≡ memorySize ⌝ }
-    ensures { λ r. ⌜ r ≡ firstNo (formQuestions k (now (memory .entry)) (now (disk .entry)) block time (now (content .entry)) (now (proof .entry)) (now (answer .entry))) ⌝ }
+    requires { ⌜ length (now memory) ≡ memorySize present ⌝ }
+    ensures { λ r. ⌜ r ≡ firstNo (formQuestions present k (now (memory .entry)) (now (disk .entry)) block time (now (content .entry)) (now (proof .entry)) (now (answer .entry))) ⌝ }
 {
     let fits = disk_fits(memory, disk);
     let known = kinds::is_known(k);

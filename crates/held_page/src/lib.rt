@@ -3,25 +3,26 @@ ghost use mathlib.Core.Path.{_≡_};
 ghost use Prim.Native.Nat.{_<_};
 ghost use lib.ListN.{length};
 ghost use Rattle.octets.specs.Part.{repeated, equal};
-ghost use Rattle.lockpage.specs.Size.{entriesPerPage, pageSize};
+ghost use Rattle.lockpage.specs.Geometry.{present};
+ghost use Rattle.lockpage.specs.Size.{pageSize};
 ghost use Rattle.lockpage.specs.Page.{entryAt, withEntry};
-ghost use Rattle.memory.specs.Layout.{memorySize, mostGroups};
+ghost use Rattle.memory.specs.Layout.{memorySize};
 ghost use Rattle.memory.specs.Memory.{heldPage, withHeldPage, holding, holdingNone};
 use lockpage::Entry;
 use memory::layout;
 
 // Copies the held page into out.
 pub fn copy_page(memory: &[u8], out: &mut [u8])
-    requires { ⌜ (length (now memory) ≡ memorySize) × (length (now out) ≡ pageSize) ⌝ }
-    ensures { λ _. ⌜ now (out .exit) ≡ heldPage (now (memory .entry)) ⌝ }
+    requires { ⌜ (length (now memory) ≡ memorySize present) × (length (now out) ≡ pageSize present) ⌝ }
+    ensures { λ _. ⌜ now (out .exit) ≡ heldPage present (now (memory .entry)) ⌝ }
 {
     octets::copy(memory, layout::PAGE_START, out, 0, lockpage::PAGE_SIZE);
 }
 
 // Entry i of the held page.
 pub fn load_entry(memory: &[u8], i: usize) -> Entry
-    requires { ⌜ (length (now memory) ≡ memorySize) × (i < entriesPerPage) ⌝ }
-    ensures { λ r. ⌜ r ≡ entryAt (heldPage (now (memory .entry))) i ⌝ }
+    requires { ⌜ (length (now memory) ≡ memorySize present) × (i < present .entries) ⌝ }
+    ensures { λ r. ⌜ r ≡ entryAt (heldPage present (now (memory .entry))) i ⌝ }
 {
     let end = layout::PAGE_START + lockpage::PAGE_SIZE;
     lockpage::entries::load_entry(&memory[layout::PAGE_START..end], i)
@@ -29,8 +30,8 @@ pub fn load_entry(memory: &[u8], i: usize) -> Entry
 
 // Stores entry i of the held page.
 pub fn store_entry(memory: &mut [u8], i: usize, e: Entry)
-    requires { ⌜ (length (now memory) ≡ memorySize) × (i < entriesPerPage) ⌝ }
-    ensures { λ _. ⌜ now (memory .exit) ≡ withHeldPage (now (memory .entry)) (withEntry (heldPage (now (memory .entry))) i e) ⌝ }
+    requires { ⌜ (length (now memory) ≡ memorySize present) × (i < present .entries) ⌝ }
+    ensures { λ _. ⌜ now (memory .exit) ≡ withHeldPage present (now (memory .entry)) (withEntry (heldPage present (now (memory .entry))) i e) ⌝ }
 {
     let end = layout::PAGE_START + lockpage::PAGE_SIZE;
     lockpage::entries::store_entry(&mut memory[layout::PAGE_START..end], i, e);
@@ -38,8 +39,8 @@ pub fn store_entry(memory: &mut [u8], i: usize, e: Entry)
 
 // Whether the held page is 512 zero bytes.
 pub fn is_zero(memory: &[u8]) -> bool
-    requires { ⌜ length (now memory) ≡ memorySize ⌝ }
-    ensures { λ r. ⌜ r ≡ equal (heldPage (now (memory .entry))) (repeated pageSize 0) ⌝ }
+    requires { ⌜ length (now memory) ≡ memorySize present ⌝ }
+    ensures { λ r. ⌜ r ≡ equal (heldPage present (now (memory .entry))) (repeated (pageSize present) 0) ⌝ }
 {
     let zeros = [0u8; lockpage::PAGE_SIZE];
     let end = layout::PAGE_START + lockpage::PAGE_SIZE;
@@ -48,8 +49,8 @@ pub fn is_zero(memory: &[u8]) -> bool
 
 // Holds a group's page.
 pub fn hold(memory: &mut [u8], group: u32, page: &[u8])
-    requires { ⌜ (length (now memory) ≡ memorySize) × ((group < mostGroups) × (length (now page) ≡ pageSize)) ⌝ }
-    ensures { λ _. ⌜ now (memory .exit) ≡ holding (now (memory .entry)) group (now (page .entry)) ⌝ }
+    requires { ⌜ (length (now memory) ≡ memorySize present) × ((group < present .mostGroups) × (length (now page) ≡ pageSize present)) ⌝ }
+    ensures { λ _. ⌜ now (memory .exit) ≡ holding present (now (memory .entry)) group (now (page .entry)) ⌝ }
 {
     octets::store_u8(memory, layout::HELD_START, group as u8);
     octets::copy(page, 0, memory, layout::PAGE_START, lockpage::PAGE_SIZE);
@@ -57,8 +58,8 @@ pub fn hold(memory: &mut [u8], group: u32, page: &[u8])
 
 // Makes a page 512 zero bytes.
 fn zero_page(page: &mut [u8])
-    requires { ⌜ length (now page) ≡ pageSize ⌝ }
-    ensures { λ _. ⌜ now (page .exit) ≡ repeated pageSize 0 ⌝ }
+    requires { ⌜ length (now page) ≡ pageSize present ⌝ }
+    ensures { λ _. ⌜ now (page .exit) ≡ repeated (pageSize present) 0 ⌝ }
 {
     let blank = [0u8; lockpage::PAGE_SIZE];
     octets::copy(&blank, 0, page, 0, lockpage::PAGE_SIZE);
@@ -66,8 +67,8 @@ fn zero_page(page: &mut [u8])
 
 // Holds no page.
 pub fn hold_none(memory: &mut [u8])
-    requires { ⌜ length (now memory) ≡ memorySize ⌝ }
-    ensures { λ _. ⌜ now (memory .exit) ≡ holdingNone (now (memory .entry)) ⌝ }
+    requires { ⌜ length (now memory) ≡ memorySize present ⌝ }
+    ensures { λ _. ⌜ now (memory .exit) ≡ holdingNone present (now (memory .entry)) ⌝ }
 {
     octets::store_u8(memory, layout::HELD_START, layout::NONE);
     let end = layout::PAGE_START + lockpage::PAGE_SIZE;

@@ -14,15 +14,12 @@ use Rattle.octets.proofs.BelowLaw.{below-none, below-append, below-part, below-
 use Rattle.octets.proofs.PartLaw.{part-length, part-part, part-first, part-right}
 use Rattle.octets.proofs.NumberLaw.{bytes-length}
 use Rattle.octets.proofs.ReplacedLaw.{replaced-length, part-same, part-other, replaced-append, replaced-all, replaced-none, replaced-own}
+use Rattle.lockpage.specs.Geometry.{Geometry, Proper}
 use Rattle.lockpage.specs.declared.Entry.{Entry}
-use Rattle.lockpage.specs.Size.{wordSize, entrySize, entriesPerPage, pageSize}
+use Rattle.lockpage.specs.Size.{wordSize, entrySize, pageSize}
 use Rattle.lockpage.specs.Entry.{entry, entryBytes, entryOf, EntryFits}
-use Rattle.lockpage.specs.Page.{entryAt, withEntry, entries, blankEntry, blankPage}
+use Rattle.lockpage.specs.Page.{entryAt, withEntry, repeatedEntry, blankEntry, blankPage}
 use Rattle.lockpage.proofs.EntryLaw.{entryBytes-length, entryBytes-are, entryOf-bytes, bytes-entryOf, entryOf-fits}
-
--- a page has room for each of its entries
-pub entry-room : (p : List ℕ) (i : ℕ) → length p ≡ pageSize → i < entriesPerPage → entrySize * i + entrySize ≤ length p
-entry-room p i l h = omega arith
 
 module _ (p : List ℕ) (i : ℕ) (e : Entry) (room : entrySize * i + entrySize ≤ length p) where
   pub withEntry-length : length (withEntry p i e) ≡ length p
@@ -98,70 +95,77 @@ entry-stored p q r i e h eq er =
 
 -- ---- n times the same entry
 
-pub entries-length : (n : ℕ) (e : Entry) → length (entries n e) ≡ entrySize * n
-unfolding entries
-entries-length zero e = refl
-entries-length (suc n) e = length-append (entryBytes e) (entries n e) ∙ omega (arith, entryBytes-length e, entries-length n e)
+pub repeatedEntry-length : (n : ℕ) (e : Entry) → length (repeatedEntry n e) ≡ entrySize * n
+unfolding repeatedEntry
+repeatedEntry-length zero e = refl
+repeatedEntry-length (suc n) e = length-append (entryBytes e) (repeatedEntry n e) ∙ omega (arith, entryBytes-length e, repeatedEntry-length n e)
 
-entries-are : (n : ℕ) (e : Entry) → AreBytes (entries n e)
-unfolding entries
-entries-are zero e = below-none 256 (omega arith)
-entries-are (suc n) e = below-append 256 (entryBytes e) (entries n e) (entryBytes-are e) (entries-are n e)
+repeatedEntry-are : (n : ℕ) (e : Entry) → AreBytes (repeatedEntry n e)
+unfolding repeatedEntry
+repeatedEntry-are zero e = below-none 256 (omega arith)
+repeatedEntry-are (suc n) e = below-append 256 (entryBytes e) (repeatedEntry n e) (entryBytes-are e) (repeatedEntry-are n e)
 
 -- one more at the end
-entries-more : (n : ℕ) (e : Entry) → entries n e ++ entryBytes e ≡ entries (suc n) e
-unfolding entries
-entries-more zero e = sym (append-nil (entryBytes e))
-entries-more (suc n) e =
-    append-assoc (entryBytes e) (entries n e) (entryBytes e) ∙ ap (λ (l : List ℕ). entryBytes e ++ l) (entries-more n e)
+repeatedEntry-more : (n : ℕ) (e : Entry) → repeatedEntry n e ++ entryBytes e ≡ repeatedEntry (suc n) e
+unfolding repeatedEntry
+repeatedEntry-more zero e = sym (append-nil (entryBytes e))
+repeatedEntry-more (suc n) e =
+    append-assoc (entryBytes e) (repeatedEntry n e) (entryBytes e) ∙ ap (λ (l : List ℕ). entryBytes e ++ l) (repeatedEntry-more n e)
 
-entries-at : (n : ℕ) (e : Entry) (i : ℕ) → i < n → part (entries n e) (entrySize * i) entrySize ≡ entryBytes e
-unfolding entries
-entries-at zero e i h = absurd (omega arith)
-entries-at (suc n) e zero h = part-first (entryBytes e) (entries n e) entrySize (entryBytes-length e)
-entries-at (suc n) e (suc i) h =
+repeatedEntry-at : (n : ℕ) (e : Entry) (i : ℕ) → i < n → part (repeatedEntry n e) (entrySize * i) entrySize ≡ entryBytes e
+unfolding repeatedEntry
+repeatedEntry-at zero e i h = absurd (omega arith)
+repeatedEntry-at (suc n) e zero h = part-first (entryBytes e) (repeatedEntry n e) entrySize (entryBytes-length e)
+repeatedEntry-at (suc n) e (suc i) h =
     let place : entrySize * suc i ≡ length (entryBytes e) + entrySize * i = omega (arith, entryBytes-length e) in
-    ap (λ (at : ℕ). part (entryBytes e ++ entries n e) at entrySize) place
-    ∙ part-right (entryBytes e) (entries n e) (entrySize * i) entrySize
-    ∙ entries-at n e i (omega arith)
+    ap (λ (at : ℕ). part (entryBytes e ++ repeatedEntry n e) at entrySize) place
+    ∙ part-right (entryBytes e) (repeatedEntry n e) (entrySize * i) entrySize
+    ∙ repeatedEntry-at n e i (omega arith)
 
 -- the first entry of a list
 pub withEntry-first : (l : List ℕ) (e : Entry) → withEntry l 0 e ≡ replaced l 0 (entryBytes e)
 unfolding withEntry
 withEntry-first l e = refl
 
-pub blankPage-length : length blankPage ≡ pageSize
-unfolding blankPage
-blankPage-length = entries-length entriesPerPage blankEntry
+-- stored one by one: the first
+pub repeatedEntry-start : (p : List ℕ) (e : Entry) → p ≡ replaced p 0 (repeatedEntry 0 e)
+unfolding repeatedEntry
+repeatedEntry-start p e = sym (replaced-none p 0)
 
-pub blankPage-are : AreBytes blankPage
-unfolding blankPage
-blankPage-are = entries-are entriesPerPage blankEntry
+-- γ is any proper geometry
+module _ {γ : Geometry} (σ : Proper γ) where
+  -- a page has room for each of its entries
+  pub entry-room : (p : List ℕ) (i : ℕ) → length p ≡ pageSize γ → i < γ .entries → entrySize * i + entrySize ≤ length p
+  entry-room p i l h = omega arith
 
-pub blankPage-at : (i : ℕ) → i < entriesPerPage → entryAt blankPage i ≡ blankEntry
-unfolding blankPage entryAt
-blankPage-at i h =
-    ap entryOf (entries-at entriesPerPage blankEntry i h) ∙ entryOf-bytes blankEntry (record { word = omega arith; stamp = omega arith })
+  pub blankPage-length : length (blankPage γ) ≡ pageSize γ
+  unfolding blankPage
+  blankPage-length = repeatedEntry-length (γ .entries) blankEntry
 
--- stored one by one: the first, the next, the last
-pub entries-start : (p : List ℕ) (e : Entry) → p ≡ replaced p 0 (entries 0 e)
-unfolding entries
-entries-start p e = sym (replaced-none p 0)
+  pub blankPage-are : AreBytes (blankPage γ)
+  unfolding blankPage
+  blankPage-are = repeatedEntry-are (γ .entries) blankEntry
 
-pub entries-step : (p q r : List ℕ) (i : ℕ) (e : Entry) → length p ≡ pageSize → i < entriesPerPage → q ≡ replaced p 0 (entries i e)
-    → r ≡ withEntry q i e → r ≡ replaced p 0 (entries (i + 1) e)
-unfolding withEntry
-entries-step p q r i e l h eq er =
-    let size = entries-length i e in
-    let place : entrySize * i ≡ 0 + length (entries i e) = omega (arith, size) in
-    er
-    ∙ ap₂ (λ (x : List ℕ) (at : ℕ). replaced x at (entryBytes e)) eq place
-    ∙ replaced-append p 0 (entries i e) (entryBytes e) (omega (arith, size, entryBytes-length e))
-    ∙ ap (replaced p 0) (entries-more i e ∙ ap (λ (n : ℕ). entries n e) (sym (add-one i)))
+  pub blankPage-at : (i : ℕ) → i < γ .entries → entryAt (blankPage γ) i ≡ blankEntry
+  unfolding blankPage entryAt
+  blankPage-at i h =
+      ap entryOf (repeatedEntry-at (γ .entries) blankEntry i h) ∙ entryOf-bytes blankEntry (record { word = omega arith; stamp = omega arith })
 
-pub entries-end : (p q : List ℕ) (i : ℕ) → length p ≡ pageSize → i ≡ entriesPerPage
-    → q ≡ replaced p 0 (entries i blankEntry) → q ≡ blankPage
-unfolding blankPage
-entries-end p q i l n eq =
-    eq ∙ ap (λ (k : ℕ). replaced p 0 (entries k blankEntry)) n
-    ∙ replaced-all p (entries entriesPerPage blankEntry) (entries-length entriesPerPage blankEntry ∙ sym l)
+  -- stored one by one: the next, the last
+  pub repeatedEntry-step : (p q r : List ℕ) (i : ℕ) (e : Entry) → length p ≡ pageSize γ → i < γ .entries → q ≡ replaced p 0 (repeatedEntry i e)
+      → r ≡ withEntry q i e → r ≡ replaced p 0 (repeatedEntry (i + 1) e)
+  unfolding withEntry
+  repeatedEntry-step p q r i e l h eq er =
+      let size = repeatedEntry-length i e in
+      let place : entrySize * i ≡ 0 + length (repeatedEntry i e) = omega (arith, size) in
+      er
+      ∙ ap₂ (λ (x : List ℕ) (at : ℕ). replaced x at (entryBytes e)) eq place
+      ∙ replaced-append p 0 (repeatedEntry i e) (entryBytes e) (omega (arith, size, entryBytes-length e))
+      ∙ ap (replaced p 0) (repeatedEntry-more i e ∙ ap (λ (n : ℕ). repeatedEntry n e) (sym (add-one i)))
+
+  pub repeatedEntry-end : (p q : List ℕ) (i : ℕ) → length p ≡ pageSize γ → i ≡ γ .entries
+      → q ≡ replaced p 0 (repeatedEntry i blankEntry) → q ≡ blankPage γ
+  unfolding blankPage
+  repeatedEntry-end p q i l n eq =
+      eq ∙ ap (λ (k : ℕ). replaced p 0 (repeatedEntry k blankEntry)) n
+      ∙ replaced-all p (repeatedEntry (γ .entries) blankEntry) (repeatedEntry-length (γ .entries) blankEntry ∙ sym l)

@@ -2,13 +2,17 @@
 use mathlib.Core.Path.{refl}
 use native.Mathlib.Omega.{arith}
 use Rattle.octets.specs.Number.{bytes}
+use Rattle.lockpage.specs.Geometry.{Geometry, Proper}
 use Rattle.lockpage.specs.Entry.{entryBytes, flag}
 use Rattle.lockpage.specs.Page.{blankEntry}
-use Rattle.lockpage.specs.Claims.{ReadAndWrittenBack, WrittenAndReadBack, StateOfEntry, UpdateFits, Blank, LeftOfUnfrozen}
+use Rattle.lockpage.specs.Claims.{PapersSizes, SizeDivEight, ReadAndWrittenBack, WrittenAndReadBack, StateOfEntry, UpdateFits, Blank, LeftOfUnfrozen}
 use Rattle.lockpage.proofs.EntryLaw.{entryOf-bytes, bytes-entryOf, frozen-yes, frozen-no}
 use Rattle.lockpage.proofs.StateLaw.{state-frozen, state-counting, state-free, left-ahead, left-past}
 use Rattle.lockpage.proofs.UpdateLaw.{updated-fits}
 use Rattle.lockpage.proofs.PageLaw.{blankPage-length, blankPage-at}
+
+pub papers-sizes : PapersSizes
+papers-sizes = record { block = refl; page = refl; page-entries = refl; entry = refl }
 
 pub read-and-written-back : ReadAndWrittenBack
 unfolding ReadAndWrittenBack
@@ -31,18 +35,24 @@ pub update-fits : UpdateFits
 unfolding UpdateFits
 update-fits = updated-fits
 
-pub blank : Blank
-unfolding entryBytes bytes flag
-blank =
-    record {
-      bytes = refl;
-      free = λ now. state-free now blankEntry (frozen-no (blankEntry .stamp) refl) (omega arith);
-      size = blankPage-length;
-      entries = blankPage-at;
-    }
-
 pub left-of-unfrozen : LeftOfUnfrozen
 unfolding LeftOfUnfrozen
 left-of-unfrozen now e f =
     let no = frozen-no (e .stamp) f in
     record { ahead = left-ahead now e no; past = left-past now e no }
+
+-- γ is any proper geometry
+module _ {γ : Geometry} (σ : Proper γ) where
+  pub size-div-eight : SizeDivEight γ
+  unfolding SizeDivEight
+  size-div-eight = omega arith
+
+  pub blank : Blank γ
+  unfolding entryBytes bytes flag
+  blank =
+      record {
+        bytes = refl;
+        free = λ now. state-free now blankEntry (frozen-no (blankEntry .stamp) refl) (omega arith);
+        size = blankPage-length σ;
+        each = blankPage-at σ;
+      }

@@ -1,5 +1,5 @@
 -- What a reader wants to know of the definitions. Each claim is a type; its proof has the claim's name in proofs/Theorems.antt.
-use Prim.Native.Nat.{ℕ, suc, _+_, _-_, _≤_, _<_}
+use Prim.Native.Nat.{ℕ, suc, _+_, _-_, _/_, _≤_, _<_}
 use mathlib.Core.Path.{_≡_}
 use mathlib.Core.Bool.{true}
 use mathlib.Core.List.{List, [], _∷_}
@@ -9,11 +9,23 @@ use Rattle.octets.specs.Part.{AreBytes}
 use Rattle.lockpage.specs.declared.Entry.{Entry}
 use Rattle.lockpage.specs.declared.State.the-variants.{Free, Frozen, Counting}
 use Rattle.lockpage.specs.declared.Update.{Update}
-use Rattle.lockpage.specs.Size.{entrySize, entriesPerPage, pageSize}
+use Rattle.lockpage.specs.Geometry.{Geometry, base}
+use Rattle.lockpage.specs.Size.{entrySize, pageSize, blockSize}
 use Rattle.lockpage.specs.Entry.{entryBytes, entryOf, EntryFits, flag, frozen, unfrozen}
 use Rattle.lockpage.specs.State.{state, timeLeft}
 use Rattle.lockpage.specs.Update.{latestTime, updated, withinLimit}
 use Rattle.lockpage.specs.Page.{entryAt, blankEntry, blankPage}
+
+-- document 01's sizes: "A block is 512 bytes"; "A page has 64 entries of 8 bytes"
+pub record PapersSizes : Type 0 where
+  pub block : blockSize base ≡ 512
+  pub page : pageSize base ≡ 512
+  pub page-entries : base .entries ≡ 64
+  pub entry : entrySize ≡ 8
+
+-- document 02, Q-12: "A page has size div 8 entries"
+unfoldable pub SizeDivEight : Geometry → Type 0
+SizeDivEight γ = blockSize γ / entrySize ≡ γ .entries
 
 -- demand 2: "Entries read and written back give the same eight bytes, and the reverse."
 unfoldable pub ReadAndWrittenBack : Type 0
@@ -37,11 +49,11 @@ UpdateFits = (u : Update) (now : ℕ) (e : Entry) → now ≤ latestTime → Ent
     → EntryFits (updated u now e)
 
 -- the blank page is a page of blank entries, "00 00 00 00 01 00 00 00", and a block with such an entry is free at every time
-pub record Blank : Type 0 where
+pub record Blank (γ : Geometry) : Type 0 where
   pub bytes : entryBytes blankEntry ≡ 0 ∷ 0 ∷ 0 ∷ 0 ∷ 1 ∷ 0 ∷ 0 ∷ 0 ∷ []
   pub free : (now : ℕ) → state now blankEntry ≡ Free
-  pub size : length blankPage ≡ pageSize
-  pub entries : (i : ℕ) → i < entriesPerPage → entryAt blankPage i ≡ blankEntry
+  pub size : length (blankPage γ) ≡ pageSize γ
+  pub each : (i : ℕ) → i < γ .entries → entryAt (blankPage γ) i ≡ blankEntry
 
 -- the time left of an unfrozen block: "expiry minus now, negative once past"
 pub record Left (now : ℕ) (e : Entry) : Type 0 where

@@ -3,7 +3,8 @@ use Prim.Native.Nat.{ℕ, zero, suc, _*_}
 use mathlib.Core.List.{List, [], _++_}
 use Rattle.octets.specs.Part.{part, replaced}
 use Rattle.lockpage.specs.declared.Entry.{Entry}
-use Rattle.lockpage.specs.Size.{entrySize, entriesPerPage}
+use Rattle.lockpage.specs.Geometry.{Geometry}
+use Rattle.lockpage.specs.Size.{entrySize}
 use Rattle.lockpage.specs.Entry.{entry, entryBytes, entryOf}
 
 -- entry i of a page
@@ -15,13 +16,15 @@ unfoldable pub withEntry : List ℕ → ℕ → Entry → List ℕ
 withEntry page i e = replaced page (entrySize * i) (entryBytes e)
 
 -- n times the same entry
-unfoldable pub entries : ℕ → Entry → List ℕ
-entries zero e = []
-entries (suc n) e = entryBytes e ++ entries n e
+unfoldable pub repeatedEntry : ℕ → Entry → List ℕ
+repeatedEntry zero e = []
+repeatedEntry (suc n) e = entryBytes e ++ repeatedEntry n e
 
 -- formatting "sets every entry to 00 00 00 00 01 00 00 00"
 abbrev pub blankEntry : Entry
 blankEntry = entry 0 1
 
-unfoldable pub blankPage : List ℕ
-blankPage = entries entriesPerPage blankEntry
+-- γ is the box's geometry
+module _ (γ : Geometry) where
+  unfoldable pub blankPage : List ℕ
+  blankPage = repeatedEntry (γ .entries) blankEntry

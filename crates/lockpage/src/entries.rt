@@ -2,6 +2,7 @@
 ghost use mathlib.Core.Path.{_≡_};
 ghost use Prim.Native.Nat.{_+_, _*_, _≤_};
 ghost use lib.ListN.{length};
+ghost use Rattle.lockpage.specs.Geometry.{present};
 ghost use Rattle.lockpage.specs.Size.{entrySize, pageSize};
 ghost use Rattle.lockpage.specs.Page.{entryAt, withEntry, blankPage};
 use crate::Entry;
@@ -32,8 +33,8 @@ pub fn store_entry(page: &mut [u8], i: usize, e: Entry)
 
 // Makes the page the blank one of formatting.
 pub fn store_blank(page: &mut [u8])
-    requires { ⌜ length (now page) ≡ pageSize ⌝ }
-    ensures { λ _. ⌜ now (page .exit) ≡ blankPage ⌝ }
+    requires { ⌜ length (now page) ≡ pageSize present ⌝ }
+    ensures { λ _. ⌜ now (page .exit) ≡ blankPage present ⌝ }
 {
     let mut i = 0;
     while i < crate::ENTRIES_PER_PAGE {

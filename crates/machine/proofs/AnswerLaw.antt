@@ -5,6 +5,7 @@ use Prim.Native.Nat.{ℕ}
 use borrow.Author.Tests.{ltb-true}
 use lib.ListN.{length}
 use Rattle.octets.proofs.EqualLaw.{equal-yes}
+use Rattle.lockpage.specs.Geometry.{Geometry, Proper}
 use Rattle.lockpage.specs.Size.{pageSize}
 use Rattle.lockpage.specs.declared.Update.{Update}
 use Rattle.addressing.specs.Map.{groupOf}
@@ -23,61 +24,63 @@ use Rattle.machine.proofs.PassedLaw.{passed, passed-timed, accepted-cha
 use Rattle.machine.proofs.EffectLaw.{changed-length}
 use Rattle.machine.proofs.AfterLaw.{own-page}
 
--- an update answers the page that it holds, with the new tag
-pub changed-answer : (u : Update) (s : Box) (c : Command) → kindOf c ≡ Change u → refusal s c ≡ 0
-    → step s c .answer ≡ tagged (step s c .box .memory) (groupOf (c .block)) (changedPage u c)
-unfolding done effect change
-changed-answer u s c e r =
-    let t = timed s (c .now) in
-    let g = groupOf (c .block) in
-    let m = changedMemory (t .memory) g (changedPage u c) in
-    let same = step-accepted (Change u) s c e r in
-    ap (λ (o : Outcome). o .answer) same
-    ∙ padded-full (tagged m g (changedPage u c))
-    (tagged-length m g (changedPage u c) (changed-length u c (accepted-changes (Change u) s c e r u refl .proof)))
-    ∙ ap (λ (o : Outcome). tagged (o .box .memory) g (changedPage u c)) (sym same)
-
--- kind 3 answers the current page, with its tag
-page-answer : (s : Box) (c : Command) → kindOf c ≡ Page → refusal s c ≡ 0
-    → (length (currentPage (step s c .box) (c .block)) ≡ pageSize)
-    × (step s c .answer ≡ tagged (step s c .box .memory) (c .block) (currentPage (step s c .box) (c .block)))
-unfolding done effect showPage stored timed
-page-answer s c e r =
-    let t = timed s (c .now) in
-    let g = c .block in
-    let q = passed-timed Page s c (passed Page s c (all-yes Page s c e r)) in
-    let size : length (currentPage t g) ≡ pageSize = current-length t g (q .memory .size) (q .disk) (ltb-true g (groups (t .memory)) (q .range)) in
-    let same = step-accepted Page s c e r in (
-      ap (λ (o : Outcome). length (currentPage (o .box) g)) same ∙ size,
+-- γ is any proper geometry
+module _ {γ : Geometry} (σ : Proper γ) where
+  -- an update answers the page that it holds, with the new tag
+  pub changed-answer : (u : Update) (s : Box) (c : Command) → kindOf c ≡ Change u → refusal γ s c ≡ 0
+      → step γ s c .answer ≡ tagged γ (step γ s c .box .memory) (groupOf γ (c .block)) (changedPage γ u c)
+  unfolding done effect change
+  changed-answer u s c e r =
+      let t = timed γ s (c .now) in
+      let g = groupOf γ (c .block) in
+      let m = changedMemory γ (t .memory) g (changedPage γ u c) in
+      let same = step-accepted σ (Change u) s c e r in
       ap (λ (o : Outcome). o .answer) same
-          ∙ padded-full (tagged (t .memory) g (currentPage t g)) (tagged-length (t .memory) g (currentPage t g) size)
-          ∙ ap (λ (o : Outcome). tagged (o .box .memory) g (currentPage (o .box) g)) (sym same),
-    )
+      ∙ padded-full σ (tagged γ m g (changedPage γ u c))
+      (tagged-length σ m g (changedPage γ u c) (changed-length σ u c (accepted-changes σ (Change u) s c e r u refl .proof)))
+      ∙ ap (λ (o : Outcome). tagged γ (o .box .memory) g (changedPage γ u c)) (sym same)
 
--- a page brought with its tag serves
-serves : (t : Box) (g : ℕ) (proof : List ℕ) → length (currentPage t g) ≡ pageSize → proof ≡ tagged (t .memory) g (currentPage t g)
-    → Serves t g proof
-serves t g proof size e =
-    let p = currentPage t g in
-    let page : broughtPage proof ≡ p = ap broughtPage e ∙ tagged-page (t .memory) g p size in
-    record {
-      page = page;
-      matches =
-          λ u.
-          equal-yes (broughtTag proof) (tag (t .memory) g (broughtPage proof))
-          (ap broughtTag e ∙ tagged-tag (t .memory) g p size ∙ ap (tag (t .memory) g) (sym page));
-    }
+  -- kind 3 answers the current page, with its tag
+  page-answer : (s : Box) (c : Command) → kindOf c ≡ Page → refusal γ s c ≡ 0
+      → (length (currentPage γ (step γ s c .box) (c .block)) ≡ pageSize γ)
+      × (step γ s c .answer ≡ tagged γ (step γ s c .box .memory) (c .block) (currentPage γ (step γ s c .box) (c .block)))
+  unfolding done effect showPage stored timed
+  page-answer s c e r =
+      let t = timed γ s (c .now) in
+      let g = c .block in
+      let q = passed-timed σ Page s c (passed σ Page s c (all-yes σ Page s c e r)) in
+      let size : length (currentPage γ t g) ≡ pageSize γ = current-length σ t g (q .memory .size) (q .disk) (ltb-true g (groups γ (t .memory)) (q .range)) in
+      let same = step-accepted σ Page s c e r in (
+        ap (λ (o : Outcome). length (currentPage γ (o .box) g)) same ∙ size,
+        ap (λ (o : Outcome). o .answer) same
+            ∙ padded-full σ (tagged γ (t .memory) g (currentPage γ t g)) (tagged-length σ (t .memory) g (currentPage γ t g) size)
+            ∙ ap (λ (o : Outcome). tagged γ (o .box .memory) g (currentPage γ (o .box) g)) (sym same),
+      )
 
-pub answer-serves : (s : Box) (c : Command) → refusal s c ≡ 0 → AnswerServes s c
-answer-serves s c r =
-    record {
-      shown = λ e. let a = page-answer s c e r in serves (step s c .box) (c .block) (step s c .answer) (a .0) (a .1);
-      changed-page =
-          λ u e.
-          let t = step s c .box in
-          let g = groupOf (c .block) in
-          let own = own-page u s c e r in
-          let size = changed-length u c (accepted-changes (Change u) s c e r u refl .proof) in
-          serves t g (step s c .answer) (ap (λ (p : List ℕ). length p) own ∙ size)
-          (changed-answer u s c e r ∙ ap (tagged (t .memory) g) (sym own));
-    }
+  -- a page brought with its tag serves
+  serves : (t : Box) (g : ℕ) (proof : List ℕ) → length (currentPage γ t g) ≡ pageSize γ → proof ≡ tagged γ (t .memory) g (currentPage γ t g)
+      → Serves γ t g proof
+  serves t g proof size e =
+      let p = currentPage γ t g in
+      let page : broughtPage γ proof ≡ p = ap (broughtPage γ) e ∙ tagged-page σ (t .memory) g p size in
+      record {
+        page = page;
+        matches =
+            λ u.
+            equal-yes (broughtTag γ proof) (tag γ (t .memory) g (broughtPage γ proof))
+            (ap (broughtTag γ) e ∙ tagged-tag σ (t .memory) g p size ∙ ap (tag γ (t .memory) g) (sym page));
+      }
+
+  pub answer-serves : (s : Box) (c : Command) → refusal γ s c ≡ 0 → AnswerServes γ s c
+  answer-serves s c r =
+      record {
+        shown = λ e. let a = page-answer s c e r in serves (step γ s c .box) (c .block) (step γ s c .answer) (a .0) (a .1);
+        changed-page =
+            λ u e.
+            let t = step γ s c .box in
+            let g = groupOf γ (c .block) in
+            let own = own-page σ u s c e r in
+            let size = changed-length σ u c (accepted-changes σ (Change u) s c e r u refl .proof) in
+            serves t g (step γ s c .answer) (ap (λ (p : List ℕ). length p) own ∙ size)
+            (changed-answer u s c e r ∙ ap (tagged γ (t .memory) g) (sym own));
+      }

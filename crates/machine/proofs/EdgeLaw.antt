@@ -5,12 +5,14 @@ use mathlib.Core.List.{[], _∷_}
 use Prim.Native.Nat.{ℕ}
 use lib.Dec.{leb}
 use Rattle.octets.specs.Number.{bytes}
+use Rattle.lockpage.specs.Geometry.{base}
 use Rattle.lockpage.specs.declared.Entry.{Entry}
 use Rattle.lockpage.specs.declared.State.{State}
 use Rattle.lockpage.specs.declared.Update.the-variants.{Write}
 use Rattle.lockpage.specs.Entry.{entryBytes, timeOfWrite, flag, isFrozen}
 use Rattle.lockpage.specs.State.{state, timeLeft, timeLeftBytes}
 use Rattle.lockpage.specs.Update.{longestLock, expiryAt, updated, allowed, withinLimit}
+use Rattle.lockpage.proofs.GeometryLaw.{base-proper}
 use Rattle.lockpage.proofs.EntryLaw.{frozen-yes}
 use Rattle.lockpage.proofs.UpdateLaw.{within-lock, written-word, written-flag, allowed-write}
 use Rattle.addressing.specs.Map.{physical, pageBlock}
@@ -36,11 +38,11 @@ write-allowed : (a b : ℕ) (s : State) → allowed (Write a) s ≡ true → all
 unfolding allowed
 write-allowed a b s h = subst (λ (t : State). allowed (Write b) t ≡ true) (sym (allowed-write a s h)) refl
 
-module _ (s : Box) (c : Command) (k : c .kind ≡ 4) (a : Accepted s (locking c 0)) where
+module _ (s : Box) (c : Command) (k : c .kind ≡ 4) (a : Accepted base s (locking c 0)) where
   -- the first nine have yes with any lock, if they have with lock 0
-  nine : (lock : ℕ) → AllYes (toNinth (Write lock) s (locking c lock))
+  nine : (lock : ℕ) → AllYes (toNinth base (Write lock) s (locking c lock))
   nine lock =
-      let h = all-yes (Change (Write 0)) s (locking c 0) (write-kind (c .kind) 0 k) (accepts s (locking c 0) a) in (
+      let h = all-yes base-proper (Change (Write 0)) s (locking c 0) (write-kind (c .kind) 0 k) (accepts base-proper s (locking c 0) a) in (
         h .0,
         (
           h .1 .0,
@@ -54,7 +56,7 @@ module _ (s : Box) (c : Command) (k : c .kind ≡ 4) (a : Accepted s (locking c 
                   h .1 .1 .1 .1 .1 .0,
                   (
                     h .1 .1 .1 .1 .1 .1 .0,
-                    (h .1 .1 .1 .1 .1 .1 .1 .0, (write-allowed 0 lock (state (c .now) (broughtEntry c)) (h .1 .1 .1 .1 .1 .1 .1 .1 .0), tt)),
+                    (h .1 .1 .1 .1 .1 .1 .1 .0, (write-allowed 0 lock (state (c .now) (broughtEntry base c)) (h .1 .1 .1 .1 .1 .1 .1 .1 .0), tt)),
                   ),
                 ),
               ),
@@ -64,15 +66,15 @@ module _ (s : Box) (c : Command) (k : c .kind ≡ 4) (a : Accepted s (locking c 
       )
 
   -- then the tenth decides
-  tenth : (lock : ℕ) → step s (locking c lock) .number ≡ firstNo (Put 10 (leb lock longestLock) ∷ NotPut ∷ [])
+  tenth : (lock : ℕ) → step base s (locking c lock) .number ≡ firstNo (Put 10 (leb lock longestLock) ∷ NotPut ∷ [])
   unfolding refusal questions
   tenth lock =
       let d = locking c lock in
       let u = Write lock in
-      step-number s d
-      ∙ ap (λ (i : Kind). firstNo (questionsTo i s d)) (write-kind (c .kind) lock k)
-      ∙ passes-on (toNinth u s d) (question10 (Change u) (c .now) (broughtEntry c) ∷ NotPut ∷ []) (nine lock)
-      ∙ ap (λ (b : Bool). firstNo (Put 10 b ∷ NotPut ∷ [])) (lock-within lock (c .now) (broughtEntry c))
+      step-number base-proper s d
+      ∙ ap (λ (i : Kind). firstNo (questionsTo base i s d)) (write-kind (c .kind) lock k)
+      ∙ passes-on (toNinth base u s d) (question10 base (Change u) (c .now) (broughtEntry base c) ∷ NotPut ∷ []) (nine lock)
+      ∙ ap (λ (b : Bool). firstNo (Put 10 b ∷ NotPut ∷ [])) (lock-within lock (c .now) (broughtEntry base c))
 
 pub edge-values : EdgeValues
 unfolding physical pageBlock bytes entryBytes timeOfWrite flag isFrozen state timeLeft timeLeftBytes expiryAt updated firstNo

@@ -8,6 +8,7 @@ use borrow.Author.Tests.{eqb-false, eq-eqb, ne-eqb}
 use lib.Dec.{eqb}
 use lib.ListN.{length}
 use Rattle.octets.specs.Part.{repeated}
+use Rattle.lockpage.specs.Geometry.{Geometry, Proper}
 use Rattle.lockpage.specs.Size.{blockSize, pageSize}
 use Rattle.lockpage.specs.declared.Update.{Update}
 use Rattle.lockpage.specs.declared.Update.the-variants.{Write, Unfreeze, Increment}
@@ -16,7 +17,7 @@ use Rattle.addressing.specs.Map.{groupBlocks, diskSize, dataBlocks, groupOf, pl
 use Rattle.addressing.proofs.MapLaw.{placeOf-below, physical-below, physical-page, pageBlock-below}
 use Rattle.disk.specs.Disk.{block, withBlock}
 use Rattle.disk.proofs.DiskLaw.{withBlock-length, block-other, block-room}
-use Rattle.memory.specs.Layout.{memorySize, saltSize, countSize, mostGroups}
+use Rattle.memory.specs.Layout.{memorySize, saltSize, countSize}
 use Rattle.memory.specs.Memory.{salt, count, lastTime, groups, held, none, heldPage, withCount, withNoCounts, holdingNone}
 use Rattle.memory.specs.Claims.{Reads, changed}
 use Rattle.memory.proofs.FieldLaw.{salt-set, count-set, counts-cleared, page-held, page-dropped, heldPage-length}
@@ -29,7 +30,7 @@ use Rattle.machine.specs.After.{HeldPageFirst}
 use Rattle.machine.proofs.CaseLaw.{same-or-not}
 use Rattle.machine.proofs.TagLaw.{brought-length}
 
--- ---- the memory after
+-- ---- counts
 
 pub count-changed : (c : ℕ → ℕ) (g n : ℕ) → changed c g n g ≡ n
 count-changed c g n = rw (changed, eq-eqb g g refl)
@@ -37,100 +38,7 @@ count-changed c g n = rw (changed, eq-eqb g g refl)
 pub count-unchanged : (c : ℕ → ℕ) (g n k : ℕ) → (k ≡ g → ⊥) → changed c g n k ≡ c k
 count-unchanged c g n k e = rw (changed, ne-eqb k g e)
 
-pub changed-reads : (m : List ℕ) → length m ≡ memorySize → (g : ℕ) (p : List ℕ) → g < mostGroups → count m g + 1 < 256 ^ countSize
-    → length p ≡ pageSize
-    → Reads (changedMemory m g p) (salt m) (changed (count m) g (count m g + 1)) (lastTime m) (groups m) g p
-unfolding changedMemory
-changed-reads m l g p h n lp =
-    let a = count-set m l g (count m g + 1) h n in
-    let b = page-held (withCount m g (count m g + 1)) (a .size) g p (omega arith) lp in
-    record {
-      size = b .size;
-      salt = b .salt ∙ a .salt;
-      count = λ k i. b .count k i ∙ a .count k i;
-      time = b .time ∙ a .time;
-      groups = b .groups ∙ a .groups;
-      held = b .held;
-      page = b .page;
-    }
-
-pub restarted-none : (m : List ℕ) → held m ≡ none → restarted m ≡ m
-unfolding restarted
-restarted-none m e = rw (restarted, eq-eqb (held m) none e)
-
-restarted-reads : (m : List ℕ) → length m ≡ memorySize → (held m ≡ none → ⊥) → held m < mostGroups
-    → count m (held m) + 1 < 256 ^ countSize
-    → Reads (restarted m) (salt m) (changed (count m) (held m) (count m (held m) + 1)) (lastTime m) (groups m) none (repeated pageSize 0)
-unfolding restarted
-restarted-reads m l e h n = rw (restarted, ne-eqb (held m) none e) (both (page-dropped m l))
-  where
-    both : Reads (holdingNone m) (salt m) (count m) (lastTime m) (groups m) none (repeated pageSize 0)
-        → Reads (withCount (holdingNone m) (held m) (count m (held m) + 1)) (salt m) (changed (count m) (held m) (count m (held m) + 1)) (lastTime m) (groups m) none (repeated pageSize 0)
-    both a =
-        let b = count-set (holdingNone m) (a .size) (held m) (count m (held m) + 1) h n in
-        record {
-          size = b .size;
-          salt = b .salt ∙ a .salt;
-          count = λ k i. b .count k i ∙ ap (λ (x : ℕ). elim (eqb k (held m)) [ true ↦ count m (held m) + 1 | false ↦ x ]) (a .count k i);
-          time = b .time ∙ a .time;
-          groups = b .groups ∙ a .groups;
-          held = b .held ∙ a .held;
-          page = b .page ∙ a .page;
-        }
-
-pub restarted-held : (m : List ℕ) → (held m ≡ none → ⊥) → restarted m ≡ withCount (holdingNone m) (held m) (count m (held m) + 1)
-unfolding restarted
-restarted-held m e = rw (restarted, ne-eqb (held m) none e)
-
--- the fields that a restart leaves, and that none is held after it
-module _ (m : List ℕ) (v : Valid m) where
-  pub restarted-held-reads : (held m ≡ none → ⊥)
-      → Reads (restarted m) (salt m) (changed (count m) (held m) (count m (held m) + 1)) (lastTime m) (groups m) none (repeated pageSize 0)
-  restarted-held-reads n = restarted-reads m (v .size) n (omega (arith, v .group n, v .most)) (omega (arith, v .unspent n))
-
-  pub restarted-salt : salt (restarted m) ≡ salt m
-  restarted-salt = same-or-not (held m) none (λ n. ap salt (restarted-none m n)) (λ n. restarted-held-reads n .salt)
-
-  pub restarted-time : lastTime (restarted m) ≡ lastTime m
-  restarted-time = same-or-not (held m) none (λ n. ap lastTime (restarted-none m n)) (λ n. restarted-held-reads n .time)
-
-  pub restarted-groups : groups (restarted m) ≡ groups m
-  restarted-groups = same-or-not (held m) none (λ n. ap groups (restarted-none m n)) (λ n. restarted-held-reads n .groups)
-
-  pub restarted-drops : held (restarted m) ≡ none
-  restarted-drops = same-or-not (held m) none (λ n. ap held (restarted-none m n) ∙ n) (λ n. restarted-held-reads n .held)
-
-pub salted-reads : (m s : List ℕ) → length m ≡ memorySize → length s ≡ saltSize
-    → Reads (salted m s) s (λ k. 0) (lastTime m) (groups m) none (repeated pageSize 0)
-unfolding salted
-salted-reads m s l ls =
-    let a = page-dropped m l in
-    let b = counts-cleared (holdingNone m) (a .size) in
-    let d = salt-set (withNoCounts (holdingNone m)) (b .size) s ls in
-    record {
-      size = d .size;
-      salt = d .salt;
-      count = λ k i. d .count k i ∙ b .count k i;
-      time = d .time ∙ b .time ∙ a .time;
-      groups = d .groups ∙ b .groups ∙ a .groups;
-      held = d .held ∙ b .held ∙ a .held;
-      page = d .page ∙ b .page ∙ a .page;
-    }
-
--- the page that an update stores
-pub changed-length : (u : Update) (c : Command) → length (c .proof) ≡ proofSize → length (changedPage u c) ≡ pageSize
-unfolding updatedPage
-changed-length u c l =
-    let brought = brought-length (c .proof) l in
-    withEntry-length (broughtPage (c .proof)) (placeOf (c .block)) _
-    (entry-room (broughtPage (c .proof)) (placeOf (c .block)) brought (placeOf-below (c .block)))
-    ∙ brought
-
--- ---- stores
-
--- the box that an effect leaves
-abbrev pub left : Box → Effect → Box
-left s e = boxOf (e .memory) (stored (s .disk) (e .stores))
+-- ---- each of several stores
 
 -- P holds of each store
 abbrev pub EachStore : (Store → Type 0) → List Store → Type 0
@@ -141,115 +49,216 @@ pub each-append : (P : Store → Type 0) (xs ys : List Store) → EachStore P xs
 each-append P [] ys h k = k
 each-append P (x ∷ xs) ys h k = (h .0, each-append P xs ys (h .1) k)
 
--- what holds of the disk, and is kept by each of the stores, holds of the disk after them
-pub each-keeps : (P : List ℕ → Type 0) (Q : Store → Type 0) → ((d : List ℕ) (x : Store) → Q x → P d → P (withBlock d (x .place) (x .bytes)))
-    → (d : List ℕ) (xs : List Store) → EachStore Q xs → P d → P (stored d xs)
-unfolding stored
-each-keeps P Q keep d [] h p = p
-each-keeps P Q keep d (x ∷ xs) h p = each-keeps P Q keep (withBlock d (x .place) (x .bytes)) xs (h .1) (keep d x (h .0) p)
+-- γ is the box's geometry
+module _ (γ : Geometry) where
+  -- the box that an effect leaves
+  abbrev pub left : Box → Effect → Box
+  left s e = boxOf (e .memory) (stored γ (s .disk) (e .stores))
 
-pub stored-append : (d : List ℕ) (xs ys : List Store) → stored d (xs ++ ys) ≡ stored (stored d xs) ys
-unfolding stored
-stored-append d [] ys = refl
-stored-append d (x ∷ xs) ys = stored-append (withBlock d (x .place) (x .bytes)) xs ys
+  -- a whole block of a box of so many groups
+  pub record Whole (groups : ℕ) (x : Store) : Type 0 where
+    pub place : x .place < groupBlocks γ * groups
+    pub size : length (x .bytes) ≡ blockSize γ
 
--- a whole block of a box of so many groups
-pub record Whole (groups : ℕ) (x : Store) : Type 0 where
-  pub place : x .place < groupBlocks * groups
-  pub size : length (x .bytes) ≡ blockSize
+  -- a store of another block than p
+  pub record Elsewhere (groups p : ℕ) (x : Store) : Type 0 where
+    pub whole : Whole groups x
+    pub other : p ≡ x .place → ⊥
 
-pub stored-length : (groups : ℕ) (d : List ℕ) (xs : List Store) → EachStore (Whole groups) xs → length d ≡ diskSize groups
-    → length (stored d xs) ≡ diskSize groups
-stored-length groups =
-    each-keeps (λ (d : List ℕ). length d ≡ diskSize groups) (Whole groups)
-    (λ d x w l. withBlock-length d (x .place) (x .bytes) (w .size) (block-room d groups (x .place) l (w .place)) ∙ l)
+-- γ is any proper geometry
+module _ {γ : Geometry} (σ : Proper γ) where
+  -- ---- the memory after
 
--- a store of another block than p
-pub record Elsewhere (groups p : ℕ) (x : Store) : Type 0 where
-  pub whole : Whole groups x
-  pub other : p ≡ x .place → ⊥
+  pub changed-reads : (m : List ℕ) → length m ≡ memorySize γ → (g : ℕ) (p : List ℕ) → g < γ .mostGroups → count m g + 1 < 256 ^ countSize
+      → length p ≡ pageSize γ
+      → Reads γ (changedMemory γ m g p) (salt m) (changed (count m) g (count m g + 1)) (lastTime γ m) (groups γ m) g p
+  unfolding changedMemory
+  changed-reads m l g p h n lp =
+      let a = count-set σ m l g (count m g + 1) h n in
+      let b = page-held σ (withCount m g (count m g + 1)) (a .size) g p (omega arith) lp in
+      record {
+        size = b .size;
+        salt = b .salt ∙ a .salt;
+        count = λ k i. b .count k i ∙ a .count k i;
+        time = b .time ∙ a .time;
+        groups = b .groups ∙ a .groups;
+        held = b .held;
+        page = b .page;
+      }
 
-pub elsewhere : (groups p : ℕ) (xs : List Store) → EachStore (Whole groups) xs → EachStore (λ (x : Store). p ≡ x .place → ⊥) xs
-    → EachStore (Elsewhere groups p) xs
-elsewhere groups p [] w n = tt
-elsewhere groups p (x ∷ xs) w n = (record { whole = w .0; other = n .0 }, elsewhere groups p xs (w .1) (n .1))
+  pub restarted-none : (m : List ℕ) → held γ m ≡ none → restarted γ m ≡ m
+  unfolding restarted
+  restarted-none m e = rw (restarted, eq-eqb (held γ m) none e)
 
-pub untouched : (groups p : ℕ) (d : List ℕ) (xs : List Store) → EachStore (Elsewhere groups p) xs → length d ≡ diskSize groups
-    → block (stored d xs) p ≡ block d p
-untouched groups p d xs h l =
-    each-keeps (λ (e : List ℕ). (length e ≡ diskSize groups) × (block e p ≡ block d p)) (Elsewhere groups p)
-    (λ e x w k.
-    let size = w .whole .size in
-    let room = block-room e groups (x .place) (k .0) (w .whole .place) in
-    (withBlock-length e (x .place) (x .bytes) size room ∙ k .0, block-other e (x .place) (x .bytes) size room p (w .other) ∙ k .1))
-    d xs h (l, refl)
-    .1
+  restarted-reads : (m : List ℕ) → length m ≡ memorySize γ → (held γ m ≡ none → ⊥) → held γ m < γ .mostGroups
+      → count m (held γ m) + 1 < 256 ^ countSize
+      → Reads γ (restarted γ m) (salt m) (changed (count m) (held γ m) (count m (held γ m) + 1)) (lastTime γ m) (groups γ m) none (repeated (pageSize γ) 0)
+  unfolding restarted
+  restarted-reads m l e h n = rw (restarted, ne-eqb (held γ m) none e) (both (page-dropped σ m l))
+    where
+      both : Reads γ (holdingNone γ m) (salt m) (count m) (lastTime γ m) (groups γ m) none (repeated (pageSize γ) 0)
+          → Reads γ (withCount (holdingNone γ m) (held γ m) (count m (held γ m) + 1)) (salt m) (changed (count m) (held γ m) (count m (held γ m) + 1)) (lastTime γ m) (groups γ m) none (repeated (pageSize γ) 0)
+      both a =
+          let b = count-set σ (holdingNone γ m) (a .size) (held γ m) (count m (held γ m) + 1) h n in
+          record {
+            size = b .size;
+            salt = b .salt ∙ a .salt;
+            count = λ k i. b .count k i ∙ ap (λ (x : ℕ). elim (eqb k (held γ m)) [ true ↦ count m (held γ m) + 1 | false ↦ x ]) (a .count k i);
+            time = b .time ∙ a .time;
+            groups = b .groups ∙ a .groups;
+            held = b .held ∙ a .held;
+            page = b .page ∙ a .page;
+          }
 
--- ---- the held page's store
+  pub restarted-held : (m : List ℕ) → (held γ m ≡ none → ⊥) → restarted γ m ≡ withCount (holdingNone γ m) (held γ m) (count m (held γ m) + 1)
+  unfolding restarted
+  restarted-held m e = rw (restarted, ne-eqb (held γ m) none e)
 
-pub put-none : (m : List ℕ) → held m ≡ none → putHeld m ≡ []
-unfolding putHeld
-put-none m e = rw (putHeld, eq-eqb (held m) none e)
+  -- the fields that a restart leaves, and that none is held after it
+  module _ (m : List ℕ) (v : Valid γ m) where
+    pub restarted-held-reads : (held γ m ≡ none → ⊥)
+        → Reads γ (restarted γ m) (salt m) (changed (count m) (held γ m) (count m (held γ m) + 1)) (lastTime γ m) (groups γ m) none (repeated (pageSize γ) 0)
+    restarted-held-reads n = restarted-reads m (v .size) n (omega (arith, v .group n, v .most)) (omega (arith, v .unspent n))
 
-pub put-some : (m : List ℕ) → (held m ≡ none → ⊥) → putHeld m ≡ store (pageBlock (held m)) (heldPage m) ∷ []
-unfolding putHeld
-put-some m n = rw (putHeld, ne-eqb (held m) none n)
+    pub restarted-salt : salt (restarted γ m) ≡ salt m
+    restarted-salt = same-or-not (held γ m) none (λ n. ap salt (restarted-none m n)) (λ n. restarted-held-reads n .salt)
 
-pub evict-same : (m : List ℕ) (g : ℕ) → held m ≡ g → evict m g ≡ []
-unfolding evict
-evict-same m g e = rw (evict, eq-eqb (held m) g e)
+    pub restarted-time : lastTime γ (restarted γ m) ≡ lastTime γ m
+    restarted-time = same-or-not (held γ m) none (λ n. ap (lastTime γ) (restarted-none m n)) (λ n. restarted-held-reads n .time)
 
-pub evict-other : (m : List ℕ) (g : ℕ) → (held m ≡ g → ⊥) → evict m g ≡ putHeld m
-unfolding evict
-evict-other m g n = rw (evict, ne-eqb (held m) g n)
+    pub restarted-groups : groups γ (restarted γ m) ≡ groups γ m
+    restarted-groups = same-or-not (held γ m) none (λ n. ap (groups γ) (restarted-none m n)) (λ n. restarted-held-reads n .groups)
 
--- what holds of the held page's store, if there is one, holds of each
-pub each-put : (P : Store → Type 0) (m : List ℕ) → ((held m ≡ none → ⊥) → P (store (pageBlock (held m)) (heldPage m)))
-    → EachStore P (putHeld m)
-unfolding putHeld
-each-put P m h = go (eqb (held m) none) refl
-  where
-    go : (b : Bool) → eqb (held m) none ≡ b
-        → EachStore P (elim b [ true ↦ [] | false ↦ store (pageBlock (held m)) (heldPage m) ∷ [] ])
-    go true e = tt
-    go false e = (h (eqb-false (held m) none e), tt)
+    pub restarted-drops : held γ (restarted γ m) ≡ none
+    restarted-drops = same-or-not (held γ m) none (λ n. ap (held γ) (restarted-none m n) ∙ n) (λ n. restarted-held-reads n .held)
 
-pub each-evicted : (P : Store → Type 0) (m : List ℕ) (g : ℕ) → EachStore P (putHeld m) → EachStore P (evict m g)
-unfolding evict
-each-evicted P m g h = go (eqb (held m) g)
-  where
-    go : (b : Bool) → EachStore P (elim b [ true ↦ [] | false ↦ putHeld m ])
-    go true = tt
-    go false = h
+  pub salted-reads : (m s : List ℕ) → length m ≡ memorySize γ → length s ≡ saltSize
+      → Reads γ (salted γ m s) s (λ k. 0) (lastTime γ m) (groups γ m) none (repeated (pageSize γ) 0)
+  unfolding salted
+  salted-reads m s l ls =
+      let a = page-dropped σ m l in
+      let b = counts-cleared σ (holdingNone γ m) (a .size) in
+      let d = salt-set σ (withNoCounts γ (holdingNone γ m)) (b .size) s ls in
+      record {
+        size = d .size;
+        salt = d .salt;
+        count = λ k i. d .count k i ∙ b .count k i;
+        time = d .time ∙ b .time ∙ a .time;
+        groups = d .groups ∙ b .groups ∙ a .groups;
+        held = d .held ∙ b .held ∙ a .held;
+        page = d .page ∙ b .page ∙ a .page;
+      }
 
-pub held-whole : (m : List ℕ) → Valid m → (held m ≡ none → ⊥) → Whole (groups m) (store (pageBlock (held m)) (heldPage m))
-held-whole m v n = record { place = pageBlock-below (groups m) (held m) (v .group n); size = heldPage-length m (v .size) }
+  -- the page that an update stores
+  pub changed-length : (u : Update) (c : Command) → length (c .proof) ≡ proofSize γ → length (changedPage γ u c) ≡ pageSize γ
+  unfolding updatedPage
+  changed-length u c l =
+      let brought = brought-length σ (c .proof) l in
+      withEntry-length (broughtPage γ (c .proof)) (placeOf γ (c .block)) _
+      (entry-room σ (broughtPage γ (c .proof)) (placeOf γ (c .block)) brought (placeOf-below σ (c .block)))
+      ∙ brought
 
-pub put-whole : (m : List ℕ) → Valid m → EachStore (Whole (groups m)) (putHeld m)
-put-whole m v = each-put (Whole (groups m)) m (held-whole m v)
+  -- ---- stores
 
--- ---- the data's store
+  -- what holds of the disk, and is kept by each of the stores, holds of the disk after them
+  pub each-keeps : (P : List ℕ → Type 0) (Q : Store → Type 0) → ((d : List ℕ) (x : Store) → Q x → P d → P (withBlock γ d (x .place) (x .bytes)))
+      → (d : List ℕ) (xs : List Store) → EachStore Q xs → P d → P (stored γ d xs)
+  unfolding stored
+  each-keeps P Q keep d [] h p = p
+  each-keeps P Q keep d (x ∷ xs) h p = each-keeps P Q keep (withBlock γ d (x .place) (x .bytes)) xs (h .1) (keep d x (h .0) p)
 
--- it is of no page
-pub content-on-no-page : (u : Update) (a g : ℕ) (content : List ℕ)
-    → EachStore (λ (x : Store). pageBlock g ≡ x .place → ⊥) (putContent u a content)
-unfolding putContent
-content-on-no-page (Write lock) a g content = (λ p. physical-page a g (sym p), tt)
-content-on-no-page Unfreeze a g content = tt
-content-on-no-page (Increment value) a g content = tt
+  pub stored-append : (d : List ℕ) (xs ys : List Store) → stored γ d (xs ++ ys) ≡ stored γ (stored γ d xs) ys
+  unfolding stored
+  stored-append d [] ys = refl
+  stored-append d (x ∷ xs) ys = stored-append (withBlock γ d (x .place) (x .bytes)) xs ys
 
-pub content-whole : (u : Update) (groups a : ℕ) (content : List ℕ) → length content ≡ contentLength (Change u) → a < dataBlocks groups
-    → EachStore (Whole groups) (putContent u a content)
-unfolding putContent
-content-whole (Write lock) groups a content l h = (record { place = physical-below groups a h; size = l }, tt)
-content-whole Unfreeze groups a content l h = tt
-content-whole (Increment value) groups a content l h = tt
+  pub stored-length : (groups : ℕ) (d : List ℕ) (xs : List Store) → EachStore (Whole γ groups) xs → length d ≡ diskSize γ groups
+      → length (stored γ d xs) ≡ diskSize γ groups
+  stored-length groups =
+      each-keeps (λ (d : List ℕ). length d ≡ diskSize γ groups) (Whole γ groups)
+      (λ d x w l. withBlock-length σ d (x .place) (x .bytes) (w .size) (block-room σ d groups (x .place) l (w .place)) ∙ l)
 
--- ---- an update's stores
+  pub elsewhere : (groups p : ℕ) (xs : List Store) → EachStore (Whole γ groups) xs → EachStore (λ (x : Store). p ≡ x .place → ⊥) xs
+      → EachStore (Elsewhere γ groups p) xs
+  elsewhere groups p [] w n = tt
+  elsewhere groups p (x ∷ xs) w n = (record { whole = w .0; other = n .0 }, elsewhere groups p xs (w .1) (n .1))
 
--- where another group is held, its page goes first
-pub held-first : HeldPageFirst
-unfolding HeldPageFirst change putContent
-held-first s c lock n other =
-    ap (λ (xs : List Store). xs ++ (store (physical (c .block)) (c .content) ∷ []))
-    (evict-other (s .memory) (groupOf (c .block)) other ∙ put-some (s .memory) n)
+  pub untouched : (groups p : ℕ) (d : List ℕ) (xs : List Store) → EachStore (Elsewhere γ groups p) xs → length d ≡ diskSize γ groups
+      → block γ (stored γ d xs) p ≡ block γ d p
+  untouched groups p d xs h l =
+      each-keeps (λ (e : List ℕ). (length e ≡ diskSize γ groups) × (block γ e p ≡ block γ d p)) (Elsewhere γ groups p)
+      (λ e x w k.
+      let size = w .whole .size in
+      let room = block-room σ e groups (x .place) (k .0) (w .whole .place) in
+      (withBlock-length σ e (x .place) (x .bytes) size room ∙ k .0, block-other σ e (x .place) (x .bytes) size room p (w .other) ∙ k .1))
+      d xs h (l, refl)
+      .1
+
+  -- ---- the held page's store
+
+  pub put-none : (m : List ℕ) → held γ m ≡ none → putHeld γ m ≡ []
+  unfolding putHeld
+  put-none m e = rw (putHeld, eq-eqb (held γ m) none e)
+
+  pub put-some : (m : List ℕ) → (held γ m ≡ none → ⊥) → putHeld γ m ≡ store (pageBlock γ (held γ m)) (heldPage γ m) ∷ []
+  unfolding putHeld
+  put-some m n = rw (putHeld, ne-eqb (held γ m) none n)
+
+  pub evict-same : (m : List ℕ) (g : ℕ) → held γ m ≡ g → evict γ m g ≡ []
+  unfolding evict
+  evict-same m g e = rw (evict, eq-eqb (held γ m) g e)
+
+  pub evict-other : (m : List ℕ) (g : ℕ) → (held γ m ≡ g → ⊥) → evict γ m g ≡ putHeld γ m
+  unfolding evict
+  evict-other m g n = rw (evict, ne-eqb (held γ m) g n)
+
+  -- what holds of the held page's store, if there is one, holds of each
+  pub each-put : (P : Store → Type 0) (m : List ℕ) → ((held γ m ≡ none → ⊥) → P (store (pageBlock γ (held γ m)) (heldPage γ m)))
+      → EachStore P (putHeld γ m)
+  unfolding putHeld
+  each-put P m h = go (eqb (held γ m) none) refl
+    where
+      go : (b : Bool) → eqb (held γ m) none ≡ b
+          → EachStore P (elim b [ true ↦ [] | false ↦ store (pageBlock γ (held γ m)) (heldPage γ m) ∷ [] ])
+      go true e = tt
+      go false e = (h (eqb-false (held γ m) none e), tt)
+
+  pub each-evicted : (P : Store → Type 0) (m : List ℕ) (g : ℕ) → EachStore P (putHeld γ m) → EachStore P (evict γ m g)
+  unfolding evict
+  each-evicted P m g h = go (eqb (held γ m) g)
+    where
+      go : (b : Bool) → EachStore P (elim b [ true ↦ [] | false ↦ putHeld γ m ])
+      go true = tt
+      go false = h
+
+  pub held-whole : (m : List ℕ) → Valid γ m → (held γ m ≡ none → ⊥) → Whole γ (groups γ m) (store (pageBlock γ (held γ m)) (heldPage γ m))
+  held-whole m v n = record { place = pageBlock-below σ (groups γ m) (held γ m) (v .group n); size = heldPage-length σ m (v .size) }
+
+  pub put-whole : (m : List ℕ) → Valid γ m → EachStore (Whole γ (groups γ m)) (putHeld γ m)
+  put-whole m v = each-put (Whole γ (groups γ m)) m (held-whole m v)
+
+  -- ---- the data's store
+
+  -- it is of no page
+  pub content-on-no-page : (u : Update) (a g : ℕ) (content : List ℕ)
+      → EachStore (λ (x : Store). pageBlock γ g ≡ x .place → ⊥) (putContent γ u a content)
+  unfolding putContent
+  content-on-no-page (Write lock) a g content = (λ p. physical-page σ a g (sym p), tt)
+  content-on-no-page Unfreeze a g content = tt
+  content-on-no-page (Increment value) a g content = tt
+
+  pub content-whole : (u : Update) (groups a : ℕ) (content : List ℕ) → length content ≡ contentLength γ (Change u) → a < dataBlocks γ groups
+      → EachStore (Whole γ groups) (putContent γ u a content)
+  unfolding putContent
+  content-whole (Write lock) groups a content l h = (record { place = physical-below σ groups a h; size = l }, tt)
+  content-whole Unfreeze groups a content l h = tt
+  content-whole (Increment value) groups a content l h = tt
+
+  -- ---- an update's stores
+
+  -- where another group is held, its page goes first
+  pub held-first : HeldPageFirst γ
+  unfolding HeldPageFirst change putContent
+  held-first s c lock n other =
+      ap (λ (xs : List Store). xs ++ (store (physical γ (c .block)) (c .content) ∷ []))
+      (evict-other (s .memory) (groupOf γ (c .block)) other ∙ put-some (s .memory) n)

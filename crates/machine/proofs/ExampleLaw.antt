@@ -11,6 +11,7 @@ use lib.ListN.{length}
 use Rattle.octets.specs.Part.{repeated}
 use Rattle.octets.proofs.EqualLaw.{equal-yes}
 use Rattle.octets.proofs.RepeatedLaw.{repeated-length}
+use Rattle.lockpage.specs.Geometry.{base}
 use Rattle.lockpage.specs.Size.{pageSize}
 use Rattle.lockpage.specs.declared.Entry.{Entry as PageEntry}
 use Rattle.lockpage.specs.declared.Update.{Update}
@@ -18,6 +19,7 @@ use Rattle.lockpage.specs.Entry.{EntryFits}
 use Rattle.lockpage.specs.State.{state}
 use Rattle.lockpage.specs.Update.{latestTime, updated, allowed, withinLimit}
 use Rattle.lockpage.specs.Page.{entryAt, withEntry}
+use Rattle.lockpage.proofs.GeometryLaw.{base-proper}
 use Rattle.lockpage.proofs.PageLaw.{entry-room, entryAt-same}
 use Rattle.addressing.specs.Map.{diskSize, dataBlocks, groupOf, placeOf, pageBlock}
 use Rattle.addressing.proofs.MapLaw.{placeOf-below}
@@ -30,7 +32,7 @@ use Rattle.machine.specs.declared.Kind.the-variants.{Change, Sync, Resta
 use Rattle.machine.specs.Command.{Box, kindNumbered, proofSize, broughtPage, broughtEntry, answerSize}
 use Rattle.machine.specs.Tag.{tag, currentPage}
 use Rattle.machine.specs.Question.{contentLength, questionsTo, questions, firstNo, refusal, AllYes}
-use Rattle.machine.specs.Effect.{updatedPage, changedPage}
+use Rattle.machine.specs.Effect.{updatedPage}
 use Rattle.machine.specs.Step.{step}
 use Rattle.machine.specs.Run.{Given}
 use Rattle.machine.specs.Claims.{ValidBox}
@@ -44,54 +46,55 @@ use Rattle.machine.proofs.AfterLaw.{accepted-after, own-page, own-count
 -- what is known of block 0 of a box of one group: the last time, the count, the held group, the entry on the current page and on the
 -- disk's
 pub record Known (time counted holds : ℕ) (now-entry disk-entry : PageEntry) (s : Box) : Type 0 where
-  pub valid : ValidBox s
-  pub one : groups (s .memory) ≡ 1
-  pub last : lastTime (s .memory) ≡ time
+  pub valid : ValidBox base s
+  pub one : groups base (s .memory) ≡ 1
+  pub last : lastTime base (s .memory) ≡ time
   pub count-is : count (s .memory) 0 ≡ counted
-  pub held-is : held (s .memory) ≡ holds
-  pub current : entryAt (currentPage s 0) 0 ≡ now-entry
-  pub on-disk : entryAt (block (s .disk) (pageBlock 0)) 0 ≡ disk-entry
+  pub held-is : held base (s .memory) ≡ holds
+  pub current : entryAt (currentPage base s 0) 0 ≡ now-entry
+  pub on-disk : entryAt (block base (s .disk) (pageBlock base 0)) 0 ≡ disk-entry
 
 -- ---- an update of block 0 that brings the current page
 
 module _ (time counted holds : ℕ) (e d : PageEntry) (s : Box) (h : Known time counted holds e d s) where
-  page-length : length (currentPage s 0) ≡ pageSize
+  page-length : length (currentPage base s 0) ≡ pageSize base
   page-length =
-      current-length s 0 (facts (s .memory) (h .valid .memory) .size) (h .valid .disk) (omega (arith, h .one))
+      current-length base-proper s 0 (facts base-proper (s .memory) (h .valid .memory) .size) (h .valid .disk) (omega (arith, h .one))
 
-  brings : (kind now value : ℕ) (content : List ℕ) → broughtPage (updating s kind now value content .proof) ≡ currentPage s 0
+  brings : (kind now value : ℕ) (content : List ℕ) → broughtPage base (updating s kind now value content .proof) ≡ currentPage base s 0
   unfolding groupOf
-  brings kind now value content = tagged-page (s .memory) 0 (currentPage s 0) page-length
+  brings kind now value content = tagged-page base-proper (s .memory) 0 (currentPage base s 0) page-length
 
-  pub not-forged : (kind now value : ℕ) (content : List ℕ) → Unforged s (Given (updating s kind now value content))
+  pub not-forged : (kind now value : ℕ) (content : List ℕ) → Unforged base s (Given (updating s kind now value content))
   unfolding groupOf
   not-forged kind now value content y = brings kind now value content
 
   pub served : (u : Update) (kind now value : ℕ) (content : List ℕ) → kindNumbered kind value ≡ Change u → time ≤ now → now ≤ latestTime
-      → counted < countLimit → length content ≡ contentLength (Change u) → allowed u (state now e) ≡ true
-      → withinLimit (updated u now e) ≡ true → refusal s (updating s kind now value content) ≡ 0
+      → counted < countLimit → length content ≡ contentLength base (Change u) → allowed u (state now e) ≡ true
+      → withinLimit (updated u now e) ≡ true → refusal base s (updating s kind now value content) ≡ 0
   unfolding refusal questions groupOf placeOf dataBlocks
   served u kind now value content k later early unspent size may within =
       let c = updating s kind now value content in
-      let found : broughtEntry c ≡ e = ap (λ (p : List ℕ). entryAt p 0) (brings kind now value content) ∙ h .current in
-      ap (λ (i : Kind). firstNo (questionsTo i s c)) k
-      ∙ yes-accepted (questionsTo (Change u) s c) (
+      let found : broughtEntry base c ≡ e = ap (λ (p : List ℕ). entryAt p 0) (brings kind now value content) ∙ h .current in
+      ap (λ (i : Kind). firstNo (questionsTo base i s c)) k
+      ∙ yes-accepted (questionsTo base (Change u) s c) (
         h .valid .memory,
         (
-          eq-eqb (length (s .disk)) (diskSize (groups (s .memory))) (h .valid .disk),
+          eq-eqb (length (s .disk)) (diskSize base (groups base (s .memory))) (h .valid .disk),
           (
             refl,
             (
-              and-intro (le-leb (lastTime (s .memory)) now (omega (arith, h .last))) (le-leb now latestTime early),
+              and-intro (le-leb (lastTime base (s .memory)) now (omega (arith, h .last))) (le-leb now latestTime early),
               (
-                lt-ltb 0 (dataBlocks (groups (s .memory))) (omega (arith, h .one)),
+                lt-ltb 0 (dataBlocks base (groups base (s .memory))) (omega (arith, h .one)),
                 (
-                  and-intro (eq-eqb (length content) (contentLength (Change u)) size)
-                      (and-intro (eq-eqb (length (c .proof)) proofSize (tagged-length (s .memory) 0 (currentPage s 0) page-length))
-                      (eq-eqb (length (c .answer)) answerSize (repeated-length answerSize 0))),
+                  and-intro (eq-eqb (length content) (contentLength base (Change u)) size)
+                      (and-intro (eq-eqb (length (c .proof)) (proofSize base) (tagged-length base-proper (s .memory) 0 (currentPage base s 0) page-length))
+                      (eq-eqb (length (c .answer)) (answerSize base) (repeated-length (answerSize base) 0))),
                   (
                     equal-yes _ _
-                        (tagged-tag (s .memory) 0 (currentPage s 0) page-length ∙ ap (tag (s .memory) 0) (sym (brings kind now value content))),
+                        (tagged-tag base-proper (s .memory) 0 (currentPage base s 0) page-length
+                        ∙ ap (tag base (s .memory) 0) (sym (brings kind now value content))),
                     (
                       lt-ltb (count (s .memory) 0) countLimit (omega (arith, h .count-is)),
                       (
@@ -108,47 +111,47 @@ module _ (time counted holds : ℕ) (e d : PageEntry) (s : Box) (h : Known time 
       )
 
   pub updated-known : (u : Update) (kind now value : ℕ) (content : List ℕ) → kindNumbered kind value ≡ Change u
-      → refusal s (updating s kind now value content) ≡ 0 → (holds ≡ none) ⊎ (holds ≡ 0) → EntryFits (updated u now e)
-      → Known now (counted + 1) 0 (updated u now e) d (step s (updating s kind now value content) .box)
+      → refusal base s (updating s kind now value content) ≡ 0 → (holds ≡ none) ⊎ (holds ≡ 0) → EntryFits (updated u now e)
+      → Known now (counted + 1) 0 (updated u now e) d (step base s (updating s kind now value content) .box)
   unfolding groupOf placeOf updatedPage
   updated-known u kind now value content k r held-here fits =
       let c = updating s kind now value content in
-      let a = accepted-after s c r in
-      let p = broughtPage (c .proof) in
-      let found : broughtEntry c ≡ e = ap (λ (p : List ℕ). entryAt p 0) (brings kind now value content) ∙ h .current in
-      let size : length p ≡ pageSize = ap (λ (l : List ℕ). length l) (brings kind now value content) ∙ page-length in
+      let a = accepted-after base-proper s c r in
+      let p = broughtPage base (c .proof) in
+      let found : broughtEntry base c ≡ e = ap (λ (p : List ℕ). entryAt p 0) (brings kind now value content) ∙ h .current in
+      let size : length p ≡ pageSize base = ap (λ (l : List ℕ). length l) (brings kind now value content) ∙ page-length in
       record {
-        valid = accepted-valid s c r;
+        valid = accepted-valid base-proper s c r;
         one = a .same-groups ∙ h .one;
         last = a .time;
-        count-is = own-count u s c k r ∙ ap (λ (n : ℕ). n + 1) (h .count-is);
-        held-is = own-held u s c k r;
+        count-is = own-count base-proper u s c k r ∙ ap (λ (n : ℕ). n + 1) (h .count-is);
+        held-is = own-held base-proper u s c k r;
         current =
-            ap (λ (q : List ℕ). entryAt q 0) (own-page u s c k r)
+            ap (λ (q : List ℕ). entryAt q 0) (own-page base-proper u s c k r)
             ∙ ap (λ (i : PageEntry). entryAt (withEntry p 0 (updated u now i)) 0) found
-            ∙ entryAt-same p 0 (updated u now e) (entry-room p 0 size (placeOf-below 0)) fits;
+            ∙ entryAt-same p 0 (updated u now e) (entry-room base-proper p 0 size (placeOf-below base-proper 0)) fits;
         on-disk =
             ap (λ (q : List ℕ). entryAt q 0)
-            (own-on-disk u s c k r (subst (λ (i : ℕ). (i ≡ none) ⊎ (i ≡ 0)) (sym (h .held-is)) held-here))
+            (own-on-disk base-proper u s c k r (subst (λ (i : ℕ). (i ≡ none) ⊎ (i ≡ 0)) (sym (h .held-is)) held-here))
             ∙ h .on-disk;
       }
 
   -- ---- sync and restart
 
   -- the questions put to a restart are those put to a sync
-  plain-yes : (kind now : ℕ) → time ≤ now → now ≤ latestTime → AllYes (questionsTo Sync s (plain kind now))
+  plain-yes : (kind now : ℕ) → time ≤ now → now ≤ latestTime → AllYes (questionsTo base Sync s (plain kind now))
   plain-yes kind now later early = (
     h .valid .memory,
     (
-      eq-eqb (length (s .disk)) (diskSize (groups (s .memory))) (h .valid .disk),
+      eq-eqb (length (s .disk)) (diskSize base (groups base (s .memory))) (h .valid .disk),
       (
         refl,
         (
-          and-intro (le-leb (lastTime (s .memory)) now (omega (arith, h .last))) (le-leb now latestTime early),
+          and-intro (le-leb (lastTime base (s .memory)) now (omega (arith, h .last))) (le-leb now latestTime early),
           (
             refl,
             (
-              and-intro refl (and-intro refl (eq-eqb (length (repeated answerSize 0)) answerSize (repeated-length answerSize 0))),
+              and-intro refl (and-intro refl (eq-eqb (length (repeated (answerSize base) 0)) (answerSize base) (repeated-length (answerSize base) 0))),
               (refl, (refl, (refl, (refl, (refl, tt))))),
             ),
           ),
@@ -157,28 +160,28 @@ module _ (time counted holds : ℕ) (e d : PageEntry) (s : Box) (h : Known time 
     ),
   )
 
-  pub sync-served : (now : ℕ) → time ≤ now → now ≤ latestTime → refusal s (plain 7 now) ≡ 0
+  pub sync-served : (now : ℕ) → time ≤ now → now ≤ latestTime → refusal base s (plain 7 now) ≡ 0
   unfolding refusal questions kindNumbered
-  sync-served now later early = yes-accepted (questionsTo Sync s (plain 7 now)) (plain-yes 7 now later early)
+  sync-served now later early = yes-accepted (questionsTo base Sync s (plain 7 now)) (plain-yes 7 now later early)
 
-  pub restart-served : (now : ℕ) → time ≤ now → now ≤ latestTime → refusal s (plain 8 now) ≡ 0
+  pub restart-served : (now : ℕ) → time ≤ now → now ≤ latestTime → refusal base s (plain 8 now) ≡ 0
   unfolding refusal questions kindNumbered
-  restart-served now later early = yes-accepted (questionsTo Restart s (plain 8 now)) (plain-yes 8 now later early)
+  restart-served now later early = yes-accepted (questionsTo base Restart s (plain 8 now)) (plain-yes 8 now later early)
 
   -- group 0's page on a disk is the current one where none is held
-  page-on-disk : (t : Box) → held (t .memory) ≡ none → block (t .disk) (pageBlock 0) ≡ currentPage t 0
-  page-on-disk t n = sym (current-other t 0 (λ e. omega arith))
+  page-on-disk : (t : Box) → held base (t .memory) ≡ none → block base (t .disk) (pageBlock base 0) ≡ currentPage base t 0
+  page-on-disk t n = sym (current-other base-proper t 0 (λ e. omega arith))
 
-  pub sync-known : (now : ℕ) → refusal s (plain 7 now) ≡ 0 → Known now counted none e e (step s (plain 7 now) .box)
+  pub sync-known : (now : ℕ) → refusal base s (plain 7 now) ≡ 0 → Known now counted none e e (step base s (plain 7 now) .box)
   unfolding kindNumbered
   sync-known now r =
       let c = plain 7 now in
-      let t = step s c .box in
-      let a = accepted-after s c r in
-      let here : 0 < groups (s .memory) = omega (arith, h .one) in
-      let page : entryAt (currentPage t 0) 0 ≡ e = ap (λ (p : List ℕ). entryAt p 0) (a .page 0 here) ∙ h .current in
+      let t = step base s c .box in
+      let a = accepted-after base-proper s c r in
+      let here : 0 < groups base (s .memory) = omega (arith, h .one) in
+      let page : entryAt (currentPage base t 0) 0 ≡ e = ap (λ (p : List ℕ). entryAt p 0) (a .page 0 here) ∙ h .current in
       record {
-        valid = accepted-valid s c r;
+        valid = accepted-valid base-proper s c r;
         one = a .same-groups ∙ h .one;
         last = a .time;
         count-is = a .counts 0 here ∙ h .count-is;
@@ -187,19 +190,19 @@ module _ (time counted holds : ℕ) (e d : PageEntry) (s : Box) (h : Known time 
         on-disk = ap (λ (p : List ℕ). entryAt p 0) (page-on-disk t (a .held-group)) ∙ page;
       }
 
-  pub restart-known : (now : ℕ) → refusal s (plain 8 now) ≡ 0 → holds ≡ 0 → Known now (counted + 1) none d d (step s (plain 8 now) .box)
+  pub restart-known : (now : ℕ) → refusal base s (plain 8 now) ≡ 0 → holds ≡ 0 → Known now (counted + 1) none d d (step base s (plain 8 now) .box)
   unfolding kindNumbered
   restart-known now r z =
       let c = plain 8 now in
-      let t = step s c .box in
-      let a = accepted-after s c r in
-      let here : 0 < groups (s .memory) = omega (arith, h .one) in
-      let is-held : held (s .memory) ≡ 0 = h .held-is ∙ z in
-      let page : entryAt (currentPage t 0) 0 ≡ d = ap (λ (p : List ℕ). entryAt p 0) (a .page 0 here) ∙ h .on-disk in
+      let t = step base s c .box in
+      let a = accepted-after base-proper s c r in
+      let here : 0 < groups base (s .memory) = omega (arith, h .one) in
+      let is-held : held base (s .memory) ≡ 0 = h .held-is ∙ z in
+      let page : entryAt (currentPage base t 0) 0 ≡ d = ap (λ (p : List ℕ). entryAt p 0) (a .page 0 here) ∙ h .on-disk in
       let up : count (t .memory) 0 ≡ count (s .memory) 0 + 1 =
-      subst (λ (i : ℕ). count (t .memory) i ≡ count (s .memory) i + 1) is-held (lost-count s c refl r (omega arith)) in
+      subst (λ (i : ℕ). count (t .memory) i ≡ count (s .memory) i + 1) is-held (lost-count base-proper s c refl r (omega arith)) in
       record {
-        valid = accepted-valid s c r;
+        valid = accepted-valid base-proper s c r;
         one = a .same-groups ∙ h .one;
         last = a .time;
         count-is = up ∙ ap (λ (n : ℕ). n + 1) (h .count-is);

@@ -11,12 +11,14 @@ use lib.ListN.{length}
 use Rattle.octets.specs.Part.{repeated}
 use Rattle.octets.proofs.RepeatedLaw.{repeated-length, repeated-below}
 use Rattle.octets.proofs.BelowLaw.{below-none}
+use Rattle.lockpage.specs.Geometry.{base}
 use Rattle.lockpage.specs.Size.{blockSize}
 use Rattle.lockpage.specs.declared.Update.the-variants.{Write, Unfreeze}
 use Rattle.lockpage.specs.Entry.{entry, timeOfWrite, flag, isFrozen}
 use Rattle.lockpage.specs.State.{state}
 use Rattle.lockpage.specs.Update.{expiryAt, updated, allowed, wordLimit, withinLimit}
 use Rattle.lockpage.specs.Page.{entryAt, blankEntry}
+use Rattle.lockpage.proofs.GeometryLaw.{base-proper}
 use Rattle.addressing.specs.Map.{diskSize, dataBlocks, groupOf, placeOf}
 use Rattle.memory.specs.Layout.{memorySize, saltSize}
 use Rattle.memory.specs.Memory.{none}
@@ -41,19 +43,19 @@ use Rattle.machine.proofs.ExampleLaw.{Known, served, updated-known, not
 
 -- what is formatted: zeros
 room : Box
-room = boxOf (repeated memorySize 0) (repeated (diskSize 1) 0)
+room = boxOf (repeated (memorySize base) 0) (repeated (diskSize base 1) 0)
 
-as-formatted : Formats room 1 (repeated saltSize 0)
-as-formatted = formats room 1 (repeated saltSize 0)
+as-formatted : Formats base room 1 (repeated saltSize 0)
+as-formatted = formats base-proper room 1 (repeated saltSize 0)
 
-format-passes : format room 1 (repeated saltSize 0) .number ≡ 0
+format-passes : format base room 1 (repeated saltSize 0) .number ≡ 0
 unfolding formatQuestions room
 format-passes =
     as-formatted .number
-    ∙ yes-accepted (formatQuestions room 1 (repeated saltSize 0)) (
-      and-intro refl (and-intro refl (eq-eqb (length (repeated memorySize 0)) memorySize (repeated-length memorySize 0))),
+    ∙ yes-accepted (formatQuestions base room 1 (repeated saltSize 0)) (
+      and-intro refl (and-intro refl (eq-eqb (length (repeated (memorySize base) 0)) (memorySize base) (repeated-length (memorySize base) 0))),
       (
-        eq-eqb (length (repeated (diskSize 1) 0)) (diskSize 1) (repeated-length (diskSize 1) 0),
+        eq-eqb (length (repeated (diskSize base 1) 0)) (diskSize base 1) (repeated-length (diskSize base 1) 0),
         (eq-eqb (length (repeated saltSize 0)) saltSize (repeated-length saltSize 0), tt),
       ),
     )
@@ -62,7 +64,7 @@ known-formatted : Known 0 0 none blankEntry blankEntry formattedBox
 unfolding formattedBox room groupOf placeOf dataBlocks
 known-formatted =
     let r = as-formatted .reads format-passes in
-    let page : entryAt (currentPage formattedBox 0) 0 ≡ blankEntry = as-formatted .blank format-passes 0 (lit< tt) in
+    let page : entryAt (currentPage base formattedBox 0) 0 ≡ blankEntry = as-formatted .blank format-passes 0 (lit< tt) in
     record {
       valid = as-formatted .valid format-passes;
       one = r .groups;
@@ -70,31 +72,31 @@ known-formatted =
       count-is = r .count 0 (lit< tt);
       held-is = r .held;
       current = page;
-      on-disk = ap (λ (p : List ℕ). entryAt p 0) (sym (current-other formattedBox 0 (λ e. omega (arith, r .held)))) ∙ page;
+      on-disk = ap (λ (p : List ℕ). entryAt p 0) (sym (current-other base-proper formattedBox 0 (λ e. omega (arith, r .held)))) ∙ page;
     }
 
 -- ---- each command
 
-writing-served : refusal formattedBox writing ≡ 0
+writing-served : refusal base formattedBox writing ≡ 0
 unfolding kindNumbered timeOfWrite flag isFrozen state expiryAt updated allowed wordLimit withinLimit
 writing-served =
-    served 0 0 none blankEntry blankEntry formattedBox known-formatted (Write 500) 4 1000 500 (repeated blockSize 1) refl (lit≤ tt) (lit≤ tt)
-    (lit< tt) (repeated-length blockSize 1) refl refl
+    served 0 0 none blankEntry blankEntry formattedBox known-formatted (Write 500) 4 1000 500 (repeated (blockSize base) 1) refl (lit≤ tt) (lit≤ tt)
+    (lit< tt) (repeated-length (blockSize base) 1) refl refl
 
 known-written : Known 1000 1 0 (entry 500 2000) blankEntry written
 unfolding written kindNumbered updated
 known-written =
-    updated-known 0 0 none blankEntry blankEntry formattedBox known-formatted (Write 500) 4 1000 500 (repeated blockSize 1) refl
+    updated-known 0 0 none blankEntry blankEntry formattedBox known-formatted (Write 500) 4 1000 500 (repeated (blockSize base) 1) refl
     writing-served (inl refl) (record { word = lit< tt; stamp = lit< tt })
 
-syncing-served : refusal written syncing ≡ 0
+syncing-served : refusal base written syncing ≡ 0
 syncing-served = sync-served 1000 1 0 (entry 500 2000) blankEntry written known-written 1000 (lit≤ tt) (lit≤ tt)
 
 known-start : Known 1000 1 none (entry 500 2000) (entry 500 2000) start
 unfolding start
 known-start = sync-known 1000 1 0 (entry 500 2000) blankEntry written known-written 1000 syncing-served
 
-unfreezing-served : refusal start unfreezing ≡ 0
+unfreezing-served : refusal base start unfreezing ≡ 0
 unfolding kindNumbered timeOfWrite flag isFrozen state expiryAt updated allowed wordLimit withinLimit
 unfreezing-served =
     served 1000 1 none (entry 500 2000) (entry 500 2000) start known-start Unfreeze 5 1200 0 [] refl (lit≤ tt) (lit≤ tt) (lit< tt) refl refl
@@ -106,7 +108,7 @@ known-unfrozen =
     updated-known 1000 1 none (entry 500 2000) (entry 500 2000) start known-start Unfreeze 5 1200 0 [] refl unfreezing-served (inl refl)
     (record { word = lit< tt; stamp = lit< tt })
 
-restarting-served : refusal unfrozen restarting ≡ 0
+restarting-served : refusal base unfrozen restarting ≡ 0
 restarting-served =
     restart-served 1200 2 0 (entry 1700 2001) (entry 500 2000) unfrozen known-unfrozen 1300 (lit≤ tt) (lit≤ tt)
 
@@ -115,7 +117,7 @@ unfolding restarted
 known-restarted =
     restart-known 1200 2 0 (entry 1700 2001) (entry 500 2000) unfrozen known-unfrozen 1300 restarting-served refl
 
-unfreezing-again-served : refusal restarted unfreezingAgain ≡ 0
+unfreezing-again-served : refusal base restarted unfreezingAgain ≡ 0
 unfolding kindNumbered timeOfWrite flag isFrozen state expiryAt updated allowed wordLimit withinLimit
 unfreezing-again-served =
     served 1300 3 none (entry 500 2000) (entry 500 2000) restarted known-restarted Unfreeze 5 1400 0 [] refl (lit≤ tt) (lit≤ tt) (lit< tt)
@@ -127,11 +129,11 @@ known-counting =
     updated-known 1300 3 none (entry 500 2000) (entry 500 2000) restarted known-restarted Unfreeze 5 1400 0 [] refl unfreezing-again-served
     (inl refl) (record { word = lit< tt; stamp = lit< tt })
 
-overwriting-served : refusal counting overwriting ≡ 0
+overwriting-served : refusal base counting overwriting ≡ 0
 unfolding kindNumbered timeOfWrite flag isFrozen state expiryAt updated allowed wordLimit withinLimit
 overwriting-served =
-    served 1400 4 0 (entry 1900 2001) (entry 500 2000) counting known-counting (Write 0) 4 1900 0 (repeated blockSize 2) refl (lit≤ tt)
-    (lit≤ tt) (lit< tt) (repeated-length blockSize 2) refl refl
+    served 1400 4 0 (entry 1900 2001) (entry 500 2000) counting known-counting (Write 0) 4 1900 0 (repeated (blockSize base) 2) refl (lit≤ tt)
+    (lit≤ tt) (lit< tt) (repeated-length (blockSize base) 2) refl refl
 
 -- ---- the premises
 
@@ -139,49 +141,49 @@ formatted-bytes : ByteBox formattedBox
 unfolding formattedBox room
 formatted-bytes =
     as-formatted .bytes
-    (record { memory = repeated-below 256 memorySize 0 (lit< tt); disk = repeated-below 256 (diskSize 1) 0 (lit< tt) })
+    (record { memory = repeated-below 256 (memorySize base) 0 (lit< tt); disk = repeated-below 256 (diskSize base 1) 0 (lit< tt) })
     (repeated-below 256 saltSize 0 (lit< tt))
 
 written-bytes : ByteBox written
 unfolding written
 written-bytes =
-    accepted-bytes formattedBox writing writing-served formatted-bytes
+    accepted-bytes base-proper formattedBox writing writing-served formatted-bytes
     (record {
-      content = repeated-below 256 blockSize 1 (lit< tt);
+      content = repeated-below 256 (blockSize base) 1 (lit< tt);
       proof =
-          tagged-are (formattedBox .memory) (groupOf 0) (currentPage formattedBox (groupOf 0))
-          (current-are formattedBox (groupOf 0) (formatted-bytes .memory) (formatted-bytes .disk));
-      answer = repeated-below 256 answerSize 0 (lit< tt);
+          tagged-are base-proper (formattedBox .memory) (groupOf base 0) (currentPage base formattedBox (groupOf base 0))
+          (current-are base-proper formattedBox (groupOf base 0) (formatted-bytes .memory) (formatted-bytes .disk));
+      answer = repeated-below 256 (answerSize base) 0 (lit< tt);
     })
     .box
 
 start-bytes : ByteBox start
 unfolding start
 start-bytes =
-    accepted-bytes written syncing syncing-served written-bytes
-    (record { content = below-none 256 (lit< tt); proof = below-none 256 (lit< tt); answer = repeated-below 256 answerSize 0 (lit< tt) })
+    accepted-bytes base-proper written syncing syncing-served written-bytes
+    (record { content = below-none 256 (lit< tt); proof = below-none 256 (lit< tt); answer = repeated-below 256 (answerSize base) 0 (lit< tt) })
     .box
 
-unforged-events : Throughout Unforged start events
+unforged-events : Throughout base (Unforged base) start events
 unfolding unfrozen restarted counting kindNumbered asks
 unforged-events = (
   not-forged 1000 1 none (entry 500 2000) (entry 500 2000) start known-start 5 1200 0 [],
   (
-    λ y. absurd (no-seventh Restart unfrozen restarting refl refl y),
+    λ y. absurd (no-seventh base-proper Restart unfrozen restarting refl refl y),
     (
       not-forged 1300 3 none (entry 500 2000) (entry 500 2000) restarted known-restarted 5 1400 0 [],
-      (not-forged 1400 4 0 (entry 1900 2001) (entry 500 2000) counting known-counting 4 1900 0 (repeated blockSize 2), tt),
+      (not-forged 1400 4 0 (entry 1900 2001) (entry 500 2000) counting known-counting 4 1900 0 (repeated (blockSize base) 2), tt),
     ),
   ),
 )
 
-accepted-events : Throughout IsAccepted start events
+accepted-events : Throughout base IsAccepted start events
 unfolding unfrozen restarted counting
 accepted-events = (
-  step-number start unfreezing ∙ unfreezing-served,
+  step-number base-proper start unfreezing ∙ unfreezing-served,
   (
-    step-number unfrozen restarting ∙ restarting-served,
-    (step-number restarted unfreezingAgain ∙ unfreezing-again-served, (step-number counting overwriting ∙ overwriting-served, tt)),
+    step-number base-proper unfrozen restarting ∙ restarting-served,
+    (step-number base-proper restarted unfreezingAgain ∙ unfreezing-again-served, (step-number base-proper counting overwriting ∙ overwriting-served, tt)),
   ),
 )
 
@@ -192,15 +194,15 @@ premises-met =
       begins-bytes = formatted-bytes .disk;
       begins-none-held = known-formatted .held-is;
       all-unforged = (
-        not-forged 0 0 none blankEntry blankEntry formattedBox known-formatted 4 1000 500 (repeated blockSize 1),
-        (λ y. absurd (no-seventh Sync written syncing refl refl y), unforged-events),
+        not-forged 0 0 none blankEntry blankEntry formattedBox known-formatted 4 1000 500 (repeated (blockSize base) 1),
+        (λ y. absurd (no-seventh base-proper Sync written syncing refl refl y), unforged-events),
       );
       all-accepted =
-          (step-number formattedBox writing ∙ writing-served, (step-number written syncing ∙ syncing-served, accepted-events));
+          (step-number base-proper formattedBox writing ∙ writing-served, (step-number base-proper written syncing ∙ syncing-served, accepted-events));
       bytes = start-bytes .disk;
       none-held = known-start .held-is;
       unforged = unforged-events;
       time = known-start .last;
       frozen = known-start .on-disk;
-      overwritten = accepted-after counting overwriting overwriting-served .content 0;
+      overwritten = accepted-after base-proper counting overwriting overwriting-served .content 0;
     }

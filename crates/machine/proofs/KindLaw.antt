@@ -7,6 +7,7 @@ use Prim.Native.Nat.{ℕ, zero, suc, _+_, _≤_, _<_}
 use native.Mathlib.Omega.{arith}
 use lib.Dec.{lit≤}
 use lib.ListN.{length, getD}
+use Rattle.lockpage.specs.Geometry.{Geometry, Proper}
 use Rattle.lockpage.specs.declared.Update.the-variants.{Write, Unfreeze, Increment}
 use Rattle.machine.specs.declared.Kind.{Kind}
 use Rattle.machine.specs.declared.Kind.the-variants.{Read, Entry, Page, Change, Sync, Restart, NewSalt, Identify, Unknown}
@@ -55,49 +56,6 @@ number-of n value k e h =
     (λ same. sym same ∙ ap number e)
     (numbered n value)
 
--- a known kind has a number from 1 to 10
-known-number : (k : Kind) → HasYes (question3 k) → (1 ≤ number k) × (number k ≤ 10)
-unfolding number
-known-number Read h = (lit≤ tt, lit≤ tt)
-known-number Entry h = (lit≤ tt, lit≤ tt)
-known-number Page h = (lit≤ tt, lit≤ tt)
-known-number (Change (Write lock)) h = (lit≤ tt, lit≤ tt)
-known-number (Change Unfreeze) h = (lit≤ tt, lit≤ tt)
-known-number (Change (Increment value)) h = (lit≤ tt, lit≤ tt)
-known-number Sync h = (lit≤ tt, lit≤ tt)
-known-number Restart h = (lit≤ tt, lit≤ tt)
-known-number NewSalt h = (lit≤ tt, lit≤ tt)
-known-number Identify h = (lit≤ tt, lit≤ tt)
-known-number Unknown h = absurd (false≢true h)
-
--- and each such number is a known kind's
-AllKnown : List Kind → Type 0
-AllKnown [] = Unit
-AllKnown (k ∷ ks) = HasYes (question3 k) × AllKnown ks
-
-known-at : (ks : List Kind) (i : ℕ) → AllKnown ks → i < length ks → HasYes (question3 (getD ks i Unknown))
-unfolding AllKnown
-known-at [] i h l = absurd (omega arith)
-known-at (k ∷ ks) zero h l = h .0
-known-at (k ∷ ks) (suc i) h l = known-at ks i (h .1) (omega arith)
-
-known-kind : (n value : ℕ) → 1 ≤ n → n ≤ 10 → HasYes (question3 (kindNumbered n value))
-unfolding kindNumbered AllKnown
-known-kind zero value l h = absurd (omega arith)
-known-kind (suc i) value l h =
-    known-at (kinds value) i (refl, (refl, (refl, (refl, (refl, (refl, (refl, (refl, (refl, (refl, tt)))))))))) (omega arith)
-
-pub one-to-ten : (c : Command) → OneToTen c
-one-to-ten c =
-    record {
-      known = known-kind (c .kind) (c .value);
-      only =
-          λ h.
-          let range = known-number (kindOf c) h in
-          let same = number-of (c .kind) (c .value) (kindOf c) refl (range .0) in
-          (omega (arith, range .0), omega (arith, range .1));
-    }
-
 pub unfreeze-number : (n value : ℕ) → kindNumbered n value ≡ Change Unfreeze → n ≡ 5
 unfolding number
 unfreeze-number n value e = number-of n value (Change Unfreeze) e (omega arith)
@@ -129,3 +87,50 @@ restart-kind n value e = ap (λ (k : ℕ). getD (Unknown ∷ kinds value) k Unkn
 pub new-salt-kind : (n value : ℕ) → n ≡ 9 → kindNumbered n value ≡ NewSalt
 unfolding kindNumbered
 new-salt-kind n value e = ap (λ (k : ℕ). getD (Unknown ∷ kinds value) k Unknown) e
+
+-- γ is the box's geometry
+module _ (γ : Geometry) where
+  AllKnown : List Kind → Type 0
+  AllKnown [] = Unit
+  AllKnown (k ∷ ks) = HasYes (question3 γ k) × AllKnown ks
+
+-- γ is any proper geometry
+module _ {γ : Geometry} (σ : Proper γ) where
+  -- a known kind has a number from 1 to 10
+  known-number : (k : Kind) → HasYes (question3 γ k) → (1 ≤ number k) × (number k ≤ 10)
+  unfolding number
+  known-number Read h = (lit≤ tt, lit≤ tt)
+  known-number Entry h = (lit≤ tt, lit≤ tt)
+  known-number Page h = (lit≤ tt, lit≤ tt)
+  known-number (Change (Write lock)) h = (lit≤ tt, lit≤ tt)
+  known-number (Change Unfreeze) h = (lit≤ tt, lit≤ tt)
+  known-number (Change (Increment value)) h = (lit≤ tt, lit≤ tt)
+  known-number Sync h = (lit≤ tt, lit≤ tt)
+  known-number Restart h = (lit≤ tt, lit≤ tt)
+  known-number NewSalt h = (lit≤ tt, lit≤ tt)
+  known-number Identify h = (lit≤ tt, lit≤ tt)
+  known-number Unknown h = absurd (false≢true h)
+
+  -- and each such number is a known kind's
+  known-at : (ks : List Kind) (i : ℕ) → AllKnown γ ks → i < length ks → HasYes (question3 γ (getD ks i Unknown))
+  unfolding AllKnown
+  known-at [] i h l = absurd (omega arith)
+  known-at (k ∷ ks) zero h l = h .0
+  known-at (k ∷ ks) (suc i) h l = known-at ks i (h .1) (omega arith)
+
+  known-kind : (n value : ℕ) → 1 ≤ n → n ≤ 10 → HasYes (question3 γ (kindNumbered n value))
+  unfolding kindNumbered AllKnown
+  known-kind zero value l h = absurd (omega arith)
+  known-kind (suc i) value l h =
+      known-at (kinds value) i (refl, (refl, (refl, (refl, (refl, (refl, (refl, (refl, (refl, (refl, tt)))))))))) (omega arith)
+
+  pub one-to-ten : (c : Command) → OneToTen γ c
+  one-to-ten c =
+      record {
+        known = known-kind (c .kind) (c .value);
+        only =
+            λ h.
+            let range = known-number (kindOf c) h in
+            let same = number-of (c .kind) (c .value) (kindOf c) refl (range .0) in
+            (omega (arith, range .0), omega (arith, range .1));
+      }

@@ -9,6 +9,7 @@ use lib.Dec.{eqb, leb}
 use lib.ListN.{length}
 use Rattle.octets.specs.Part.{equal}
 use Rattle.octets.proofs.EqualLaw.{equal-yes}
+use Rattle.lockpage.specs.Geometry.{Geometry, Proper}
 use Rattle.lockpage.specs.declared.Update.{Update}
 use Rattle.lockpage.specs.State.{state}
 use Rattle.lockpage.specs.Update.{latestTime, updated, allowed, withinLimit}
@@ -26,109 +27,113 @@ use Rattle.machine.specs.Question.{question5, contentLength, proofLength
 use Rattle.machine.specs.Step.{timed}
 use Rattle.machine.proofs.QuestionLaw.{all-yes}
 
--- what is known where a command of kind k is carried out in box s, whose last time may have been set to now already
-pub record Passed (k : Kind) (s : Box) (c : Command) : Type 0 where
-  pub memory : Valid (s .memory)
-  pub disk : length (s .disk) ≡ diskSize (groups (s .memory))
-  pub later : lastTime (s .memory) ≤ c .now
-  pub early : c .now ≤ latestTime
-  pub range : HasYes (question5 k (groups (s .memory)) (c .block))
-  pub content : length (c .content) ≡ contentLength k
-  pub proof : length (c .proof) ≡ proofLength k
-  pub answer : length (c .answer) ≡ answerSize
+-- γ is the box's geometry
+module _ (γ : Geometry) where
+  -- what is known where a command of kind k is carried out in box s, whose last time may have been set to now already
+  pub record Passed (k : Kind) (s : Box) (c : Command) : Type 0 where
+    pub memory : Valid γ (s .memory)
+    pub disk : length (s .disk) ≡ diskSize γ (groups γ (s .memory))
+    pub later : lastTime γ (s .memory) ≤ c .now
+    pub early : c .now ≤ latestTime
+    pub range : HasYes (question5 γ k (groups γ (s .memory)) (c .block))
+    pub content : length (c .content) ≡ contentLength γ k
+    pub proof : length (c .proof) ≡ proofLength γ k
+    pub answer : length (c .answer) ≡ answerSize γ
 
--- and where it is an update
-pub record Changes (u : Update) (s : Box) (c : Command) : Type 0 where
-  pub range : c .block < dataBlocks (groups (s .memory))
-  pub proof : length (c .proof) ≡ proofSize
-  pub unspent : count (s .memory) (groupOf (c .block)) < countLimit
-  pub may : allowed u (state (c .now) (broughtEntry c)) ≡ true
-  pub within : withinLimit (updated u (c .now) (broughtEntry c)) ≡ true
+  -- and where it is an update
+  pub record Changes (u : Update) (s : Box) (c : Command) : Type 0 where
+    pub range : c .block < dataBlocks γ (groups γ (s .memory))
+    pub proof : length (c .proof) ≡ proofSize γ
+    pub unspent : count (s .memory) (groupOf γ (c .block)) < countLimit
+    pub may : allowed u (state (c .now) (broughtEntry γ c)) ≡ true
+    pub within : withinLimit (updated u (c .now) (broughtEntry γ c)) ≡ true
 
--- the update's group is one of the box
-pub changed-group : (u : Update) (s : Box) (c : Command) → Changes u s c → groupOf (c .block) < groups (s .memory)
-changed-group u s c h = groupOf-below (groups (s .memory)) (c .block) (h .range)
+-- γ is any proper geometry
+module _ {γ : Geometry} (σ : Proper γ) where
+  -- the update's group is one of the box
+  pub changed-group : (u : Update) (s : Box) (c : Command) → Changes γ u s c → groupOf γ (c .block) < groups γ (s .memory)
+  changed-group u s c h = groupOf-below σ (groups γ (s .memory)) (c .block) (h .range)
 
--- ---- from the questions
+  -- ---- from the questions
 
-pub passed : (k : Kind) (s : Box) (c : Command) → AllYes (questionsTo k s c) → Passed k s c
-passed k s c h =
-    let times = h .1 .1 .1 .0 in
-    let last = leb (lastTime (s .memory)) (c .now) in
-    let latest = leb (c .now) latestTime in
-    let lengths = h .1 .1 .1 .1 .1 .0 in
-    let content = eqb (length (c .content)) (contentLength k) in
-    let proof = eqb (length (c .proof)) (proofLength k) in
-    let answer = eqb (length (c .answer)) answerSize in
-    record {
-      memory = facts (s .memory) (h .0);
-      disk = eqb-true (length (s .disk)) (diskSize (groups (s .memory))) (h .1 .0);
-      later = leb-true (lastTime (s .memory)) (c .now) (and-elim-left last latest times);
-      early = leb-true (c .now) latestTime (and-elim-right last latest times);
-      range = h .1 .1 .1 .1 .0;
-      content = eqb-true (length (c .content)) (contentLength k) (and-elim-left content (proof && answer) lengths);
-      proof = eqb-true (length (c .proof)) (proofLength k) (and-elim-left proof answer (and-elim-right content (proof && answer) lengths));
-      answer =
-          eqb-true (length (c .answer)) answerSize (and-elim-right proof answer (and-elim-right content (proof && answer) lengths));
-    }
+  pub passed : (k : Kind) (s : Box) (c : Command) → AllYes (questionsTo γ k s c) → Passed γ k s c
+  passed k s c h =
+      let times = h .1 .1 .1 .0 in
+      let last = leb (lastTime γ (s .memory)) (c .now) in
+      let latest = leb (c .now) latestTime in
+      let lengths = h .1 .1 .1 .1 .1 .0 in
+      let content = eqb (length (c .content)) (contentLength γ k) in
+      let proof = eqb (length (c .proof)) (proofLength γ k) in
+      let answer = eqb (length (c .answer)) (answerSize γ) in
+      record {
+        memory = facts σ (s .memory) (h .0);
+        disk = eqb-true (length (s .disk)) (diskSize γ (groups γ (s .memory))) (h .1 .0);
+        later = leb-true (lastTime γ (s .memory)) (c .now) (and-elim-left last latest times);
+        early = leb-true (c .now) latestTime (and-elim-right last latest times);
+        range = h .1 .1 .1 .1 .0;
+        content = eqb-true (length (c .content)) (contentLength γ k) (and-elim-left content (proof && answer) lengths);
+        proof = eqb-true (length (c .proof)) (proofLength γ k) (and-elim-left proof answer (and-elim-right content (proof && answer) lengths));
+        answer =
+            eqb-true (length (c .answer)) (answerSize γ) (and-elim-right proof answer (and-elim-right content (proof && answer) lengths));
+      }
 
-pub changes : (u : Update) (s : Box) (c : Command) → AllYes (questionsTo (Change u) s c) → Changes u s c
-changes u s c h =
-    let known = passed (Change u) s c h in
-    record {
-      range = ltb-true (c .block) (dataBlocks (groups (s .memory))) (known .range);
-      proof = known .proof;
-      unspent = ltb-true (count (s .memory) (groupOf (c .block))) countLimit (h .1 .1 .1 .1 .1 .1 .1 .0);
-      may = h .1 .1 .1 .1 .1 .1 .1 .1 .0;
-      within = h .1 .1 .1 .1 .1 .1 .1 .1 .1 .0;
-    }
+  pub changes : (u : Update) (s : Box) (c : Command) → AllYes (questionsTo γ (Change u) s c) → Changes γ u s c
+  changes u s c h =
+      let known = passed (Change u) s c h in
+      record {
+        range = ltb-true (c .block) (dataBlocks γ (groups γ (s .memory))) (known .range);
+        proof = known .proof;
+        unspent = ltb-true (count (s .memory) (groupOf γ (c .block))) countLimit (h .1 .1 .1 .1 .1 .1 .1 .0);
+        may = h .1 .1 .1 .1 .1 .1 .1 .1 .0;
+        within = h .1 .1 .1 .1 .1 .1 .1 .1 .1 .0;
+      }
 
--- and where it is a new salt
-pub new-salt-other : (s : Box) (c : Command) → AllYes (questionsTo NewSalt s c) → c .content ≡ salt (s .memory) → ⊥
-new-salt-other s c h e =
-    let same : not (equal (c .content) (salt (s .memory))) ≡ false = ap not (equal-yes (c .content) (salt (s .memory)) e) in
-    false≢true (sym same ∙ h .1 .1 .1 .1 .1 .1 .1 .1 .1 .1 .0)
+  -- and where it is a new salt
+  pub new-salt-other : (s : Box) (c : Command) → AllYes (questionsTo γ NewSalt s c) → c .content ≡ salt (s .memory) → ⊥
+  new-salt-other s c h e =
+      let same : not (equal (c .content) (salt (s .memory))) ≡ false = ap not (equal-yes (c .content) (salt (s .memory)) e) in
+      false≢true (sym same ∙ h .1 .1 .1 .1 .1 .1 .1 .1 .1 .1 .0)
 
--- ---- once the last time is set
+  -- ---- once the last time is set
 
-pub timed-reads : (k : Kind) (s : Box) (c : Command) → Passed k s c
-    → Reads (timed s (c .now) .memory) (salt (s .memory)) (count (s .memory)) (c .now) (groups (s .memory)) (held (s .memory))
-    (heldPage (s .memory))
-unfolding timed
-timed-reads k s c h = time-set (s .memory) (h .memory .size) (c .now) (omega (arith, h .early))
+  pub timed-reads : (k : Kind) (s : Box) (c : Command) → Passed γ k s c
+      → Reads γ (timed γ s (c .now) .memory) (salt (s .memory)) (count (s .memory)) (c .now) (groups γ (s .memory)) (held γ (s .memory))
+      (heldPage γ (s .memory))
+  unfolding timed
+  timed-reads k s c h = time-set σ (s .memory) (h .memory .size) (c .now) (omega (arith, h .early))
 
-pub passed-timed : (k : Kind) (s : Box) (c : Command) → Passed k s c → Passed k (timed s (c .now)) c
-unfolding timed
-passed-timed k s c h =
-    let r = timed-reads k s c h in
-    record {
-      memory = facts (withLastTime (s .memory) (c .now)) (valid-time (s .memory) (h .memory) (c .now) (h .early));
-      disk = h .disk ∙ ap diskSize (sym (r .groups));
-      later = omega (arith, r .time);
-      early = h .early;
-      range = subst (λ (g : ℕ). HasYes (question5 k g (c .block))) (sym (r .groups)) (h .range);
-      content = h .content;
-      proof = h .proof;
-      answer = h .answer;
-    }
+  pub passed-timed : (k : Kind) (s : Box) (c : Command) → Passed γ k s c → Passed γ k (timed γ s (c .now)) c
+  unfolding timed
+  passed-timed k s c h =
+      let r = timed-reads k s c h in
+      record {
+        memory = facts σ (withLastTime γ (s .memory) (c .now)) (valid-time σ (s .memory) (h .memory) (c .now) (h .early));
+        disk = h .disk ∙ ap (diskSize γ) (sym (r .groups));
+        later = omega (arith, r .time);
+        early = h .early;
+        range = subst (λ (g : ℕ). HasYes (question5 γ k g (c .block))) (sym (r .groups)) (h .range);
+        content = h .content;
+        proof = h .proof;
+        answer = h .answer;
+      }
 
-pub changes-timed : (u : Update) (s : Box) (c : Command) → Passed (Change u) s c → Changes u s c → Changes u (timed s (c .now)) c
-changes-timed u s c h q =
-    let r = timed-reads (Change u) s c h in
-    let counted : count (timed s (c .now) .memory) (groupOf (c .block)) ≡ count (s .memory) (groupOf (c .block)) =
-    r .count (groupOf (c .block)) (omega (arith, changed-group u s c q, h .memory .most)) in
-    record {
-      range = subst (λ (g : ℕ). c .block < dataBlocks g) (sym (r .groups)) (q .range);
-      proof = q .proof;
-      unspent = omega (arith, counted, q .unspent);
-      may = q .may;
-      within = q .within;
-    }
+  pub changes-timed : (u : Update) (s : Box) (c : Command) → Passed γ (Change u) s c → Changes γ u s c → Changes γ u (timed γ s (c .now)) c
+  changes-timed u s c h q =
+      let r = timed-reads (Change u) s c h in
+      let counted : count (timed γ s (c .now) .memory) (groupOf γ (c .block)) ≡ count (s .memory) (groupOf γ (c .block)) =
+      r .count (groupOf γ (c .block)) (omega (arith, changed-group u s c q, h .memory .most)) in
+      record {
+        range = subst (λ (g : ℕ). c .block < dataBlocks γ g) (sym (r .groups)) (q .range);
+        proof = q .proof;
+        unspent = omega (arith, counted, q .unspent);
+        may = q .may;
+        within = q .within;
+      }
 
--- ---- of an accepted command
+  -- ---- of an accepted command
 
-pub accepted-changes : (k : Kind) (s : Box) (c : Command) → kindOf c ≡ k → refusal s c ≡ 0
-    → (u : Update) → k ≡ Change u → Changes u (timed s (c .now)) c
-accepted-changes k s c e r u j =
-    let h = all-yes (Change u) s c (e ∙ j) r in
-    changes-timed u s c (passed (Change u) s c h) (changes u s c h)
+  pub accepted-changes : (k : Kind) (s : Box) (c : Command) → kindOf c ≡ k → refusal γ s c ≡ 0
+      → (u : Update) → k ≡ Change u → Changes γ u (timed γ s (c .now)) c
+  accepted-changes k s c e r u j =
+      let h = all-yes σ (Change u) s c (e ∙ j) r in
+      changes-timed u s c (passed (Change u) s c h) (changes u s c h)

@@ -8,6 +8,7 @@ use Prim.Native.Nat.{ℕ, _≤_}
 use native.Mathlib.Omega.{arith}
 use borrow.Author.Tests.{leb-true, eq-eqb}
 use lib.Dec.{eqb, leb}
+use Rattle.lockpage.specs.Geometry.{Geometry, Proper}
 use Rattle.lockpage.specs.declared.Update.{Update}
 use Rattle.octets.proofs.EqualLaw.{equal-true}
 use Rattle.lockpage.specs.State.{state}
@@ -136,121 +137,125 @@ asked n (NotPut ∷ qs) h = asked n qs h
 asked n (Put k answer ∷ qs) h =
     ⊎-elim (λ e. or-inl (eqb k n) (asks n qs) (eq-eqb k n e)) (λ rest. or-inr (eqb k n) (asks n qs) (asked n qs rest)) (h .1)
 
--- ---- the eleven
+-- γ is the box's geometry
+module _ (γ : Geometry) where
+  -- ---- the first of them, put to an update, and the others
 
-pub all-numbered : (k : Kind) (s : Box) (c : Command) → numberedTo 11 (questionsTo k s c) ≡ true
-unfolding numberedTo
-all-numbered Read s c = refl
-all-numbered Entry s c = refl
-all-numbered Page s c = refl
-all-numbered (Change u) s c = refl
-all-numbered Sync s c = refl
-all-numbered Restart s c = refl
-all-numbered NewSalt s c = refl
-all-numbered Identify s c = refl
-all-numbered Unknown s c = refl
+  abbrev pub toSeventh : Update → Box → Command → List Question
+  toSeventh u s c =
+      question1 γ (s .memory)
+      ∷ question2 γ (s .memory) (s .disk)
+      ∷ question3 γ (Change u)
+      ∷ question4 γ (s .memory) (c .now)
+      ∷ question5 γ (Change u) (groups γ (s .memory)) (c .block)
+      ∷ question6 γ (Change u) (c .content) (c .proof) (c .answer)
+      ∷ question7 γ (Change u) (s .memory) (groupOf γ (c .block)) (c .proof)
+      ∷ []
 
--- a command of kind k that no question refuses has yes to each
-pub all-yes : (k : Kind) (s : Box) (c : Command) → kindOf c ≡ k → refusal s c ≡ 0 → AllYes (questionsTo k s c)
-unfolding refusal questions
-all-yes k s c e r =
-    accepted-yes 11 (questionsTo k s c) (all-numbered k s c)
-    (ap (λ (x : Kind). firstNo (questionsTo x s c)) (sym e) ∙ r)
+  abbrev pub toNinth : Update → Box → Command → List Question
+  toNinth u s c =
+      toSeventh u s c
+      ++ (question8 γ (Change u) (s .memory) (groupOf γ (c .block)) ∷ question9 γ (Change u) (c .now) (broughtEntry γ c) ∷ [])
 
--- the first two are put to every command
-pub refused-by-second : (s : Box) (c : Command) → (AllYes (question1 (s .memory) ∷ question2 (s .memory) (s .disk) ∷ []) → ⊥)
-    → (1 ≤ refusal s c) × (refusal s c ≤ 2)
-unfolding refusal questions numberedTo
-refused-by-second s c f =
-    let k = kindOf c in
-    stops-within 2 (question1 (s .memory) ∷ question2 (s .memory) (s .disk) ∷ [])
-    (question3 k
-    ∷ question4 (s .memory) (c .now)
-    ∷ question5 k (groups (s .memory)) (c .block)
-    ∷ question6 k (c .content) (c .proof) (c .answer)
-    ∷ question7 k (s .memory) (groupOf (c .block)) (c .proof)
-    ∷ question8 k (s .memory) (groupOf (c .block))
-    ∷ question9 k (c .now) (broughtEntry c)
-    ∷ question10 k (c .now) (broughtEntry c)
-    ∷ question11 k (s .memory) (c .content)
-    ∷ [])
-    refl f
+  afterNinth : Update → Box → Command → List Question
+  afterNinth u s c = question10 γ (Change u) (c .now) (broughtEntry γ c) ∷ question11 γ (Change u) (s .memory) (c .content) ∷ []
 
--- ---- the first of them, put to an update
+  afterSeventh : Update → Box → Command → List Question
+  afterSeventh u s c =
+      question8 γ (Change u) (s .memory) (groupOf γ (c .block)) ∷ question9 γ (Change u) (c .now) (broughtEntry γ c) ∷ afterNinth u s c
 
-abbrev pub toSeventh : Update → Box → Command → List Question
-toSeventh u s c =
-    question1 (s .memory)
-    ∷ question2 (s .memory) (s .disk)
-    ∷ question3 (Change u)
-    ∷ question4 (s .memory) (c .now)
-    ∷ question5 (Change u) (groups (s .memory)) (c .block)
-    ∷ question6 (Change u) (c .content) (c .proof) (c .answer)
-    ∷ question7 (Change u) (s .memory) (groupOf (c .block)) (c .proof)
-    ∷ []
+-- γ is any proper geometry
+module _ {γ : Geometry} (σ : Proper γ) where
+  -- ---- the eleven
 
-abbrev pub toNinth : Update → Box → Command → List Question
-toNinth u s c =
-    toSeventh u s c
-    ++ (question8 (Change u) (s .memory) (groupOf (c .block)) ∷ question9 (Change u) (c .now) (broughtEntry c) ∷ [])
+  pub all-numbered : (k : Kind) (s : Box) (c : Command) → numberedTo 11 (questionsTo γ k s c) ≡ true
+  unfolding numberedTo
+  all-numbered Read s c = refl
+  all-numbered Entry s c = refl
+  all-numbered Page s c = refl
+  all-numbered (Change u) s c = refl
+  all-numbered Sync s c = refl
+  all-numbered Restart s c = refl
+  all-numbered NewSalt s c = refl
+  all-numbered Identify s c = refl
+  all-numbered Unknown s c = refl
 
-afterNinth : Update → Box → Command → List Question
-afterNinth u s c = question10 (Change u) (c .now) (broughtEntry c) ∷ question11 (Change u) (s .memory) (c .content) ∷ []
+  -- a command of kind k that no question refuses has yes to each
+  pub all-yes : (k : Kind) (s : Box) (c : Command) → kindOf c ≡ k → refusal γ s c ≡ 0 → AllYes (questionsTo γ k s c)
+  unfolding refusal questions
+  all-yes k s c e r =
+      accepted-yes 11 (questionsTo γ k s c) (all-numbered k s c)
+      (ap (λ (x : Kind). firstNo (questionsTo γ x s c)) (sym e) ∙ r)
 
-afterSeventh : Update → Box → Command → List Question
-afterSeventh u s c =
-    question8 (Change u) (s .memory) (groupOf (c .block)) ∷ question9 (Change u) (c .now) (broughtEntry c) ∷ afterNinth u s c
+  -- the first two are put to every command
+  pub refused-by-second : (s : Box) (c : Command) → (AllYes (question1 γ (s .memory) ∷ question2 γ (s .memory) (s .disk) ∷ []) → ⊥)
+      → (1 ≤ refusal γ s c) × (refusal γ s c ≤ 2)
+  unfolding refusal questions numberedTo
+  refused-by-second s c f =
+      let k = kindOf c in
+      stops-within 2 (question1 γ (s .memory) ∷ question2 γ (s .memory) (s .disk) ∷ [])
+      (question3 γ k
+      ∷ question4 γ (s .memory) (c .now)
+      ∷ question5 γ k (groups γ (s .memory)) (c .block)
+      ∷ question6 γ k (c .content) (c .proof) (c .answer)
+      ∷ question7 γ k (s .memory) (groupOf γ (c .block)) (c .proof)
+      ∷ question8 γ k (s .memory) (groupOf γ (c .block))
+      ∷ question9 γ k (c .now) (broughtEntry γ c)
+      ∷ question10 γ k (c .now) (broughtEntry γ c)
+      ∷ question11 γ k (s .memory) (c .content)
+      ∷ [])
+      refl f
 
--- an update that not all of them let pass is refused by then
-pub refused-by-seventh : (u : Update) (s : Box) (c : Command) → kindOf c ≡ Change u → (AllYes (toSeventh u s c) → ⊥)
-    → (1 ≤ refusal s c) × (refusal s c ≤ 7)
-unfolding refusal questions numberedTo afterSeventh afterNinth
-refused-by-seventh u s c e f =
-    subst (λ (k : Kind). (1 ≤ firstNo (questionsTo k s c)) × (firstNo (questionsTo k s c) ≤ 7)) (sym e)
-    (stops-within 7 (toSeventh u s c) (afterSeventh u s c) refl f)
+  -- an update that not all of them let pass is refused by then
+  pub refused-by-seventh : (u : Update) (s : Box) (c : Command) → kindOf c ≡ Change u → (AllYes (toSeventh γ u s c) → ⊥)
+      → (1 ≤ refusal γ s c) × (refusal γ s c ≤ 7)
+  unfolding refusal questions numberedTo afterSeventh afterNinth
+  refused-by-seventh u s c e f =
+      subst (λ (k : Kind). (1 ≤ firstNo (questionsTo γ k s c)) × (firstNo (questionsTo γ k s c) ≤ 7)) (sym e)
+      (stops-within 7 (toSeventh γ u s c) (afterSeventh γ u s c) refl f)
 
-pub refused-by-ninth : (u : Update) (s : Box) (c : Command) → kindOf c ≡ Change u → (AllYes (toNinth u s c) → ⊥)
-    → (1 ≤ refusal s c) × (refusal s c ≤ 9)
-unfolding refusal questions numberedTo afterNinth
-refused-by-ninth u s c e f =
-    subst (λ (k : Kind). (1 ≤ firstNo (questionsTo k s c)) × (firstNo (questionsTo k s c) ≤ 9)) (sym e)
-    (stops-within 9 (toNinth u s c) (afterNinth u s c) refl f)
+  pub refused-by-ninth : (u : Update) (s : Box) (c : Command) → kindOf c ≡ Change u → (AllYes (toNinth γ u s c) → ⊥)
+      → (1 ≤ refusal γ s c) × (refusal γ s c ≤ 9)
+  unfolding refusal questions numberedTo afterNinth
+  refused-by-ninth u s c e f =
+      subst (λ (k : Kind). (1 ≤ firstNo (questionsTo γ k s c)) × (firstNo (questionsTo γ k s c) ≤ 9)) (sym e)
+      (stops-within 9 (toNinth γ u s c) (afterNinth γ u s c) refl f)
 
--- one that they all let pass got yes to question 7
-pub got-seventh : (u : Update) (s : Box) (c : Command) → kindOf c ≡ Change u → AllYes (toSeventh u s c) → GetsYes 7 (questions s c)
-unfolding questions
-got-seventh u s c e h =
-    subst (λ (k : Kind). GetsYes 7 (questionsTo k s c)) (sym e) (
-      h .0,
-      inr (
-        h .1 .0,
+  -- one that they all let pass got yes to question 7
+  pub got-seventh : (u : Update) (s : Box) (c : Command) → kindOf c ≡ Change u → AllYes (toSeventh γ u s c) → GetsYes 7 (questions γ s c)
+  unfolding questions
+  got-seventh u s c e h =
+      subst (λ (k : Kind). GetsYes 7 (questionsTo γ k s c)) (sym e) (
+        h .0,
         inr (
-          h .1 .1 .0,
-          inr
-              (h .1 .1 .1 .0, inr (h .1 .1 .1 .1 .0, inr (h .1 .1 .1 .1 .1 .0, inr (h .1 .1 .1 .1 .1 .1 .0, inl refl)))),
+          h .1 .0,
+          inr (
+            h .1 .1 .0,
+            inr
+                (h .1 .1 .1 .0, inr (h .1 .1 .1 .1 .0, inr (h .1 .1 .1 .1 .1 .0, inr (h .1 .1 .1 .1 .1 .1 .0, inl refl)))),
+          ),
         ),
-      ),
-    )
+      )
 
-pub all-seven : (u : Update) (s : Box) (c : Command) → AllYes (questionsTo (Change u) s c) → AllYes (toSeventh u s c)
-unfolding afterSeventh afterNinth
-all-seven u s c h = yes-front (toSeventh u s c) (afterSeventh u s c) h
+  pub all-seven : (u : Update) (s : Box) (c : Command) → AllYes (questionsTo γ (Change u) s c) → AllYes (toSeventh γ u s c)
+  unfolding afterSeventh afterNinth
+  all-seven u s c h = yes-front (toSeventh γ u s c) (afterSeventh γ u s c) h
 
-pub nine-seven : (u : Update) (s : Box) (c : Command) → AllYes (toNinth u s c) → AllYes (toSeventh u s c)
-nine-seven u s c h =
-    yes-front (toSeventh u s c) (question8 (Change u) (s .memory) (groupOf (c .block)) ∷ question9 (Change u) (c .now) (broughtEntry c) ∷ []) h
+  pub nine-seven : (u : Update) (s : Box) (c : Command) → AllYes (toNinth γ u s c) → AllYes (toSeventh γ u s c)
+  nine-seven u s c h =
+      yes-front (toSeventh γ u s c) (question8 γ (Change u) (s .memory) (groupOf γ (c .block)) ∷ question9 γ (Change u) (c .now) (broughtEntry γ c) ∷ []) h
 
--- a kind that question 7 is not put to does not get yes to it
-pub no-seventh : (k : Kind) (s : Box) (c : Command) → asks 7 (questionsTo k s c) ≡ false → kindOf c ≡ k → GetsYes 7 (questions s c) → ⊥
-unfolding questions
-no-seventh k s c n e h =
-    false≢true (sym n ∙ asked 7 (questionsTo k s c) (subst (λ (i : Kind). GetsYes 7 (questionsTo i s c)) e h))
+  -- a kind that question 7 is not put to does not get yes to it
+  pub no-seventh : (k : Kind) (s : Box) (c : Command) → asks 7 (questionsTo γ k s c) ≡ false → kindOf c ≡ k → GetsYes 7 (questions γ s c) → ⊥
+  unfolding questions
+  no-seventh k s c n e h =
+      false≢true (sym n ∙ asked 7 (questionsTo γ k s c) (subst (λ (i : Kind). GetsYes 7 (questionsTo γ i s c)) e h))
 
--- what the last of them says
-pub seventh-yes : (u : Update) (s : Box) (c : Command) → AllYes (toSeventh u s c)
-    → broughtTag (c .proof) ≡ tag (s .memory) (groupOf (c .block)) (broughtPage (c .proof))
-seventh-yes u s c h =
-    equal-true (broughtTag (c .proof)) (tag (s .memory) (groupOf (c .block)) (broughtPage (c .proof))) (h .1 .1 .1 .1 .1 .1 .0)
+  -- what the last of them says
+  pub seventh-yes : (u : Update) (s : Box) (c : Command) → AllYes (toSeventh γ u s c)
+      → broughtTag γ (c .proof) ≡ tag γ (s .memory) (groupOf γ (c .block)) (broughtPage γ (c .proof))
+  seventh-yes u s c h =
+      equal-true (broughtTag γ (c .proof)) (tag γ (s .memory) (groupOf γ (c .block)) (broughtPage γ (c .proof))) (h .1 .1 .1 .1 .1 .1 .0)
 
-pub ninth-yes : (u : Update) (s : Box) (c : Command) → AllYes (toNinth u s c) → allowed u (state (c .now) (broughtEntry c)) ≡ true
-ninth-yes u s c h = h .1 .1 .1 .1 .1 .1 .1 .1 .0
+  pub ninth-yes : (u : Update) (s : Box) (c : Command) → AllYes (toNinth γ u s c) → allowed u (state (c .now) (broughtEntry γ c)) ≡ true
+  ninth-yes u s c h = h .1 .1 .1 .1 .1 .1 .1 .1 .0

@@ -13,6 +13,7 @@ use mathlib.Core.List.{List}
 use Prim.Native.Nat.{ℕ, _+_, _≤_, _<_}
 use native.Mathlib.Omega.{arith}
 use lib.ListN.{length}
+use Rattle.lockpage.specs.Geometry.{Geometry, Proper}
 use Rattle.lockpage.specs.Size.{pageSize}
 use Rattle.lockpage.specs.declared.Entry.{Entry}
 use Rattle.lockpage.specs.declared.State.the-variants.{Free}
@@ -101,68 +102,70 @@ safe-updated w (Increment value) e t h s b m a k n =
       locked = locked-grown w e value t (h .locked);
     }
 
--- ---- pages
+-- γ is the box's geometry
+module _ (γ : Geometry) where
+  -- the block's entry on a page of its group
+  abbrev pub SafePage : Watch → List ℕ → Type 0
+  SafePage w p = Safe w (entryAt p (placeOf γ (w .block)))
 
--- the block's entry on a page of its group
-abbrev pub SafePage : Watch → List ℕ → Type 0
-SafePage w p = Safe w (entryAt p (placeOf (w .block)))
+  pub record SafeDisk (w : Watch) (d : List ℕ) : Type 0 where
+    pub content : block γ d (physical γ (w .block)) ≡ w .content
+    pub page : SafePage w (block γ d (pageBlock γ (groupOf γ (w .block))))
 
--- an entry replaced: the block's by a safe one, or another's
-pub safe-page : (w : Watch) (p : List ℕ) (a : ℕ) (e : Entry) → length p ≡ pageSize → SafePage w p
-    → (placeOf a ≡ placeOf (w .block) → Safe w e) → SafePage w (withEntry p (placeOf a) e)
-safe-page w p a e l h own =
-    let i = placeOf a in
-    let j = placeOf (w .block) in
-    let room = entry-room p i l (placeOf-below a) in
-    same-or-not i j
-    (λ here.
-    subst (λ (k : ℕ). Safe w (entryAt (withEntry p i e) k)) here
-    (subst (Safe w) (sym (entryAt-same p i e room (own here .fits))) (own here)))
-    (λ other. subst (Safe w) (sym (entryAt-other p i e room j (λ x. other (sym x)))) h)
+  -- a store that leaves the disk safe: not of the block, and of its group's page only with a safe entry
+  pub record Harmless (w : Watch) (groups : ℕ) (x : Store) : Type 0 where
+    pub whole : Whole γ groups x
+    pub not-content : physical γ (w .block) ≡ x .place → ⊥
+    pub page : pageBlock γ (groupOf γ (w .block)) ≡ x .place → SafePage w (x .bytes)
 
--- ---- disks
+  pub record SafeBox (w : Watch) (s : Box) : Type 0 where
+    pub disk : SafeDisk w (s .disk)
+    pub held : (held γ (s .memory) ≡ none → ⊥) → held γ (s .memory) ≡ groupOf γ (w .block) → SafePage w (heldPage γ (s .memory))
 
-pub record SafeDisk (w : Watch) (d : List ℕ) : Type 0 where
-  pub content : block d (physical (w .block)) ≡ w .content
-  pub page : SafePage w (block d (pageBlock (groupOf (w .block))))
+  pub record Kept (w : Watch) (s : Box) : Type 0 where
+    pub begun : w .start ≤ lastTime γ (s .memory)
+    pub safe : lastTime γ (s .memory) < w .bound → SafeBox w s
 
--- a store that leaves the disk safe: not of the block, and of its group's page only with a safe entry
-pub record Harmless (w : Watch) (groups : ℕ) (x : Store) : Type 0 where
-  pub whole : Whole groups x
-  pub not-content : physical (w .block) ≡ x .place → ⊥
-  pub page : pageBlock (groupOf (w .block)) ≡ x .place → SafePage w (x .bytes)
+-- γ is any proper geometry
+module _ {γ : Geometry} (σ : Proper γ) where
+  -- ---- pages
 
-store-safe : (w : Watch) (groups : ℕ) (d : List ℕ) (x : Store) → Harmless w groups x
-    → (length d ≡ diskSize groups) × SafeDisk w d
-    → (length (withBlock d (x .place) (x .bytes)) ≡ diskSize groups) × SafeDisk w (withBlock d (x .place) (x .bytes))
-store-safe w groups d x h s =
-    let q = x .place in
-    let new = x .bytes in
-    let size = h .whole .size in
-    let room = block-room d groups q (s .0) (h .whole .place) in
-    let page = pageBlock (groupOf (w .block)) in
-    let here : page ≡ q → SafePage w (block (withBlock d q new) page) =
-    λ e. subst (SafePage w) (sym (ap (block (withBlock d q new)) e ∙ block-same d q new size room)) (h .page e) in
-    let other : (page ≡ q → ⊥) → SafePage w (block (withBlock d q new) page) =
-    λ e. subst (SafePage w) (sym (block-other d q new size room page e)) (s .1 .page) in (
-      withBlock-length d q new size room ∙ s .0,
-      record {
-        content = block-other d q new size room (physical (w .block)) (h .not-content) ∙ s .1 .content;
-        page = same-or-not page q here other;
-      },
-    )
+  -- an entry replaced: the block's by a safe one, or another's
+  pub safe-page : (w : Watch) (p : List ℕ) (a : ℕ) (e : Entry) → length p ≡ pageSize γ → SafePage γ w p
+      → (placeOf γ a ≡ placeOf γ (w .block) → Safe w e) → SafePage γ w (withEntry p (placeOf γ a) e)
+  safe-page w p a e l h own =
+      let i = placeOf γ a in
+      let j = placeOf γ (w .block) in
+      let room = entry-room σ p i l (placeOf-below σ a) in
+      same-or-not i j
+      (λ here.
+      subst (λ (k : ℕ). Safe w (entryAt (withEntry p i e) k)) here
+      (subst (Safe w) (sym (entryAt-same p i e room (own here .fits))) (own here)))
+      (λ other. subst (Safe w) (sym (entryAt-other p i e room j (λ x. other (sym x)))) h)
 
-pub stores-safe : (w : Watch) (groups : ℕ) (d : List ℕ) (xs : List Store) → EachStore (Harmless w groups) xs
-    → length d ≡ diskSize groups → SafeDisk w d → SafeDisk w (stored d xs)
-stores-safe w groups d xs h l s =
-    each-keeps (λ (d : List ℕ). (length d ≡ diskSize groups) × SafeDisk w d) (Harmless w groups) (store-safe w groups) d xs h (l, s) .1
+  -- ---- disks
 
--- ---- boxes
+  store-safe : (w : Watch) (groups : ℕ) (d : List ℕ) (x : Store) → Harmless γ w groups x
+      → (length d ≡ diskSize γ groups) × SafeDisk γ w d
+      → (length (withBlock γ d (x .place) (x .bytes)) ≡ diskSize γ groups) × SafeDisk γ w (withBlock γ d (x .place) (x .bytes))
+  store-safe w groups d x h s =
+      let q = x .place in
+      let new = x .bytes in
+      let size = h .whole .size in
+      let room = block-room σ d groups q (s .0) (h .whole .place) in
+      let page = pageBlock γ (groupOf γ (w .block)) in
+      let here : page ≡ q → SafePage γ w (block γ (withBlock γ d q new) page) =
+      λ e. subst (SafePage γ w) (sym (ap (block γ (withBlock γ d q new)) e ∙ block-same σ d q new size room)) (h .page e) in
+      let other : (page ≡ q → ⊥) → SafePage γ w (block γ (withBlock γ d q new) page) =
+      λ e. subst (SafePage γ w) (sym (block-other σ d q new size room page e)) (s .1 .page) in (
+        withBlock-length σ d q new size room ∙ s .0,
+        record {
+          content = block-other σ d q new size room (physical γ (w .block)) (h .not-content) ∙ s .1 .content;
+          page = same-or-not page q here other;
+        },
+      )
 
-pub record SafeBox (w : Watch) (s : Box) : Type 0 where
-  pub disk : SafeDisk w (s .disk)
-  pub held : (held (s .memory) ≡ none → ⊥) → held (s .memory) ≡ groupOf (w .block) → SafePage w (heldPage (s .memory))
-
-pub record Kept (w : Watch) (s : Box) : Type 0 where
-  pub begun : w .start ≤ lastTime (s .memory)
-  pub safe : lastTime (s .memory) < w .bound → SafeBox w s
+  pub stores-safe : (w : Watch) (groups : ℕ) (d : List ℕ) (xs : List Store) → EachStore (Harmless γ w groups) xs
+      → length d ≡ diskSize γ groups → SafeDisk γ w d → SafeDisk γ w (stored γ d xs)
+  stores-safe w groups d xs h l s =
+      each-keeps σ (λ (d : List ℕ). (length d ≡ diskSize γ groups) × SafeDisk γ w d) (Harmless γ w groups) (store-safe w groups) d xs h (l, s) .1

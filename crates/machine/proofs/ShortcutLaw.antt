@@ -5,6 +5,7 @@ use mathlib.Core.List.{List, [], _∷_}
 use Prim.Native.Nat.{ℕ, _+_, _^_, _≤_, _<_}
 use native.Mathlib.Omega.{arith}
 use lib.ListN.{length}
+use Rattle.lockpage.specs.Geometry.{Geometry, Proper}
 use Rattle.lockpage.specs.declared.State.the-variants.{Free}
 use Rattle.lockpage.specs.declared.Update.{Update}
 use Rattle.lockpage.specs.declared.Update.the-variants.{Write, Unfreeze}
@@ -16,7 +17,7 @@ use Rattle.lockpage.specs.Page.{entryAt}
 use Rattle.lockpage.proofs.StateLaw.{Says, says}
 use Rattle.lockpage.proofs.UpdateLaw.{updated-fits, unfrozen-flag, allowed-write, allowed-unfreeze}
 use Rattle.lockpage.proofs.PageLaw.{entry-room, entryAt-fits, entryAt-same}
-use Rattle.addressing.specs.Map.{groupOf, placeOf, physical}
+use Rattle.addressing.specs.Map.{groupData, groupOf, placeOf, pageBlock}
 use Rattle.addressing.proofs.MapLaw.{placeOf-below, physical-page}
 use Rattle.memory.specs.Layout.{memorySize, countSize}
 use Rattle.memory.specs.Memory.{count, groups, held}
@@ -45,75 +46,6 @@ use Rattle.machine.proofs.ValidBoxLaw.{accepted-valid}
 use Rattle.machine.proofs.AnswerLaw.{changed-answer}
 use Rattle.machine.proofs.AfterLaw.{accepted-after, own-page, own-count, own-held, lost-count}
 
--- ---- f = 1 before the expiry
-
-pub not-free-before-expiry : NotFreeBeforeExpiry
-unfolding NotFreeBeforeExpiry
-not-free-before-expiry s c k f l =
-    let u = Write (c .value) in
-    refused-by 9 s c
-    (refused-by-ninth u s c (write-kind (c .kind) (c .value) k)
-    (λ h.
-    let free = allowed-write (c .value) (state (c .now) (broughtEntry c)) (ninth-yes u s c h) in
-    let found : Says (c .now) (broughtEntry c) Free = subst (Says (c .now) (broughtEntry c)) free (says (c .now) (broughtEntry c)) in
-    omega (arith, found .1)))
-
--- ---- a second unfreeze
-
-pub second-unfreeze-refused : SecondUnfreezeRefused
-unfolding SecondUnfreezeRefused updatedPage
-second-unfreeze-refused s c d kc kd same bytes a u =
-    let ec = unfreeze-kind (c .kind) (c .value) kc in
-    let ed = unfreeze-kind (d .kind) (d .value) kd in
-    let t = step s c .box in
-    let yes-all = all-yes (Change Unfreeze) s c ec (accepts s c a) in
-    let q = passed (Change Unfreeze) s c yes-all in
-    let x = changes Unfreeze s c yes-all in
-    let e = broughtEntry c in
-    let fits = updated-fits Unfreeze (c .now) e (q .early) (entryAt-fits (broughtPage (c .proof)) (placeOf (c .block)) (brought-are (c .proof) bytes)) (x .within) in
-    let room = entry-room (broughtPage (c .proof)) (placeOf (c .block)) (brought-length (c .proof) (x .proof)) (placeOf-below (c .block)) in
-    let stored : entryAt (changedPage Unfreeze c) (placeOf (c .block)) ≡ updated Unfreeze (c .now) e =
-    entryAt-same (broughtPage (c .proof)) (placeOf (c .block)) (updated Unfreeze (c .now) e) room fits in
-    refused-by 9 t d
-    (refused-by-ninth Unfreeze t d ed
-    (λ h.
-    let brings : broughtPage (d .proof) ≡ changedPage Unfreeze c =
-    u (got-seventh Unfreeze t d ed (nine-seven Unfreeze t d h))
-    ∙ ap (currentPage t) (ap groupOf same)
-    ∙ own-page Unfreeze s c ec (accepts s c a) in
-    let found : broughtEntry d ≡ updated Unfreeze (c .now) e =
-    ap (λ (p : List ℕ). entryAt p (placeOf (d .block))) brings ∙ ap (λ (b : ℕ). entryAt (changedPage Unfreeze c) (placeOf b)) same ∙ stored in
-    let is-frozen = allowed-unfreeze (state (d .now) (broughtEntry d)) (ninth-yes Unfreeze t d h) in
-    let still : flag (broughtEntry d .stamp) ≡ frozen = subst (Says (d .now) (broughtEntry d)) is-frozen (says (d .now) (broughtEntry d)) in
-    let now : flag (broughtEntry d .stamp) ≡ unfrozen = ap (λ (i : PageEntry). flag (i .stamp)) found ∙ unfrozen-flag (c .now) e in
-    omega arith))
-
--- ---- an old tag
-
--- a page with the tag of a memory with another count of its group is refused
-stale : (m : List ℕ) (g : ℕ) (t : Box) (d : Command) (v : Update) → kindOf d ≡ Change v → groupOf (d .block) ≡ g
-    → broughtTag (d .proof) ≡ tag m g (broughtPage (d .proof)) → length m ≡ memorySize → length (t .memory) ≡ memorySize
-    → count m g < 256 ^ countSize → count (t .memory) g < 256 ^ countSize → (count m g ≡ count (t .memory) g → ⊥)
-    → TagsDiffer m (t .memory) g (broughtPage (d .proof)) → RefusedBy 7 t d
-unfolding tag
-stale m g t d v e same old lm lt sm st other differ =
-    refused-by 7 t d
-    (refused-by-seventh v t d e
-    (λ h.
-    let p = broughtPage (d .proof) in
-    let fresh : broughtTag (d .proof) ≡ tag (t .memory) g p =
-    seventh-yes v t d h ∙ ap (λ (i : ℕ). tag (t .memory) i p) same in
-    other (message-same m (t .memory) g p p lm lt sm st (differ (sym old ∙ fresh)))))
-
--- ---- counts without a new salt
-
--- group g of the box has more than n updates and restarts counted, in 4 bytes
-record Counted (g n : ℕ) (t : Box) : Type 0 where
-  valid : ValidBox t
-  of-box : g < groups (t .memory)
-  more : n < count (t .memory) g
-  small : count (t .memory) g < 256 ^ countSize
-
 -- a count raised by 1 or left
 raised : (f : ℕ → ℕ) (a g : ℕ) → (a ≡ g → f a ≤ countLimit) → f g < 256 ^ countSize
     → (f g ≤ changed f a (f a + 1) g) × (changed f a (f a + 1) g < 256 ^ countSize)
@@ -127,125 +59,200 @@ raised f a g h small =
     let left = count-unchanged f a (f a + 1) g (λ x. e (sym x)) in
     (omega arith, omega arith))
 
--- without a new salt no count falls
-count-rises : (k : Kind) (m : List ℕ) (c : Command) (g : ℕ) → (k ≡ NewSalt → ⊥) → Valid m → g < groups m
-    → ((u : Update) → k ≡ Change u → count m (groupOf (c .block)) < countLimit) → count m g < 256 ^ countSize
-    → (count m g ≤ countAfter k m c g) × (countAfter k m c g < 256 ^ countSize)
-count-rises Read m c g n v h x small = (omega arith, small)
-count-rises Entry m c g n v h x small = (omega arith, small)
-count-rises Page m c g n v h x small = (omega arith, small)
-count-rises (Change u) m c g n v h x small =
-    let unspent = x u refl in
-    raised (count m) (groupOf (c .block)) g (λ e. omega arith) small
-count-rises Sync m c g n v h x small = (omega arith, small)
-count-rises Restart m c g n v h x small =
-    raised (count m) (held m) g (λ e. v .unspent (λ none-held. omega (arith, v .most))) small
-count-rises NewSalt m c g n v h x small = absurd (n refl)
-count-rises Identify m c g n v h x small = (omega arith, small)
-count-rises Unknown m c g n v h x small = (omega arith, small)
+-- γ is the box's geometry
+module _ (γ : Geometry) where
+  -- group g of the box has more than n updates and restarts counted, in 4 bytes
+  record Counted (g n : ℕ) (t : Box) : Type 0 where
+    valid : ValidBox γ t
+    of-box : g < groups γ (t .memory)
+    more : n < count (t .memory) g
+    small : count (t .memory) g < 256 ^ countSize
 
-counted-after : (g n : ℕ) (t : Box) (c : Command) → SaltStays t (Given c) → Counted g n t → refusal t c ≡ 0 → Counted g n (step t c .box)
-counted-after g n t c stays h r =
-    let k = kindOf c in
-    let a = accepted-after t c r in
-    let rises =
-    count-rises k (t .memory) c g (λ e. stays (step-number t c ∙ r) (new-salt-number (c .kind) (c .value) e))
-    (facts (t .memory) (h .valid .memory)) (h .of-box) (λ u e. changes u t c (all-yes (Change u) t c e r) .unspent) (h .small) in
-    let same = a .counts g (h .of-box) in
-    record {
-      valid = accepted-valid t c r;
-      of-box = subst (λ (i : ℕ). g < i) (sym (a .same-groups)) (h .of-box);
-      more = omega (arith, rises .0, h .more);
-      small = subst (λ (i : ℕ). i < 256 ^ countSize) (sym same) (rises .1);
-    }
+-- γ is any proper geometry
+module _ {γ : Geometry} (σ : Proper γ) where
+  -- ---- f = 1 before the expiry
 
-counted-run : (g n : ℕ) (t : Box) (es : List Event) → Throughout SaltStays t es → Counted g n t → Counted g n (run t es)
-counted-run g n t [] stays h = h
-counted-run g n t (Given c ∷ es) stays h =
-    counted-run g n (after t (Given c)) es (stays .1)
-    (⊎-elim (λ r. counted-after g n t c (stays .0) h r) (λ e. subst (Counted g n) (sym e) h) (accepted-or-same t c))
+  pub not-free-before-expiry : NotFreeBeforeExpiry γ
+  unfolding NotFreeBeforeExpiry
+  not-free-before-expiry s c k f l =
+      let u = Write (c .value) in
+      refused-by σ 9 s c
+      (refused-by-ninth σ u s c (write-kind (c .kind) (c .value) k)
+      (λ h.
+      let free = allowed-write (c .value) (state (c .now) (broughtEntry γ c)) (ninth-yes σ u s c h) in
+      let found : Says (c .now) (broughtEntry γ c) Free = subst (Says (c .now) (broughtEntry γ c)) free (says (c .now) (broughtEntry γ c)) in
+      omega (arith, found .1)))
 
--- ---- the old page and the lost page
+  -- ---- a second unfreeze
 
--- after an accepted update its group is counted
-module _ (u : Update) (s : Box) (c : Command) (e : kindOf c ≡ Change u) (r : refusal s c ≡ 0) where
-  updated-yes : AllYes (questionsTo (Change u) s c)
-  updated-yes = all-yes (Change u) s c e r
+  pub second-unfreeze-refused : SecondUnfreezeRefused γ
+  unfolding SecondUnfreezeRefused updatedPage
+  second-unfreeze-refused s c d kc kd same bytes a u =
+      let ec = unfreeze-kind (c .kind) (c .value) kc in
+      let ed = unfreeze-kind (d .kind) (d .value) kd in
+      let t = step γ s c .box in
+      let yes-all = all-yes σ (Change Unfreeze) s c ec (accepts σ s c a) in
+      let q = passed σ (Change Unfreeze) s c yes-all in
+      let x = changes σ Unfreeze s c yes-all in
+      let e = broughtEntry γ c in
+      let fits = updated-fits Unfreeze (c .now) e (q .early) (entryAt-fits (broughtPage γ (c .proof)) (placeOf γ (c .block)) (brought-are σ (c .proof) bytes)) (x .within) in
+      let room = entry-room σ (broughtPage γ (c .proof)) (placeOf γ (c .block)) (brought-length σ (c .proof) (x .proof)) (placeOf-below σ (c .block)) in
+      let stored : entryAt (changedPage γ Unfreeze c) (placeOf γ (c .block)) ≡ updated Unfreeze (c .now) e =
+      entryAt-same (broughtPage γ (c .proof)) (placeOf γ (c .block)) (updated Unfreeze (c .now) e) room fits in
+      refused-by σ 9 t d
+      (refused-by-ninth σ Unfreeze t d ed
+      (λ h.
+      let brings : broughtPage γ (d .proof) ≡ changedPage γ Unfreeze c =
+      u (got-seventh σ Unfreeze t d ed (nine-seven σ Unfreeze t d h))
+      ∙ ap (currentPage γ t) (ap (groupOf γ) same)
+      ∙ own-page σ Unfreeze s c ec (accepts σ s c a) in
+      let found : broughtEntry γ d ≡ updated Unfreeze (c .now) e =
+      ap (λ (p : List ℕ). entryAt p (placeOf γ (d .block))) brings ∙ ap (λ (b : ℕ). entryAt (changedPage γ Unfreeze c) (placeOf γ b)) same ∙ stored in
+      let is-frozen = allowed-unfreeze (state (d .now) (broughtEntry γ d)) (ninth-yes σ Unfreeze t d h) in
+      let still : flag (broughtEntry γ d .stamp) ≡ frozen = subst (Says (d .now) (broughtEntry γ d)) is-frozen (says (d .now) (broughtEntry γ d)) in
+      let now : flag (broughtEntry γ d .stamp) ≡ unfrozen = ap (λ (i : PageEntry). flag (i .stamp)) found ∙ unfrozen-flag (c .now) e in
+      omega arith))
 
-  unspent-before : count (s .memory) (groupOf (c .block)) < countLimit
-  unspent-before = changes u s c updated-yes .unspent
+  -- ---- an old tag
 
-  counted-update : Counted (groupOf (c .block)) (count (s .memory) (groupOf (c .block))) (step s c .box)
-  counted-update =
-      let up = own-count u s c e r in
+  -- a page with the tag of a memory with another count of its group is refused
+  stale : (m : List ℕ) (g : ℕ) (t : Box) (d : Command) (v : Update) → kindOf d ≡ Change v → groupOf γ (d .block) ≡ g
+      → broughtTag γ (d .proof) ≡ tag γ m g (broughtPage γ (d .proof)) → length m ≡ memorySize γ → length (t .memory) ≡ memorySize γ
+      → count m g < 256 ^ countSize → count (t .memory) g < 256 ^ countSize → (count m g ≡ count (t .memory) g → ⊥)
+      → TagsDiffer γ m (t .memory) g (broughtPage γ (d .proof)) → RefusedBy γ 7 t d
+  unfolding tag
+  stale m g t d v e same old lm lt sm st other differ =
+      refused-by σ 7 t d
+      (refused-by-seventh σ v t d e
+      (λ h.
+      let p = broughtPage γ (d .proof) in
+      let fresh : broughtTag γ (d .proof) ≡ tag γ (t .memory) g p =
+      seventh-yes σ v t d h ∙ ap (λ (i : ℕ). tag γ (t .memory) i p) same in
+      other (message-same σ m (t .memory) g p p lm lt sm st (differ (sym old ∙ fresh)))))
+
+  -- ---- counts without a new salt
+
+  -- without a new salt no count falls
+  count-rises : (k : Kind) (m : List ℕ) (c : Command) (g : ℕ) → (k ≡ NewSalt → ⊥) → Valid γ m → g < groups γ m
+      → ((u : Update) → k ≡ Change u → count m (groupOf γ (c .block)) < countLimit) → count m g < 256 ^ countSize
+      → (count m g ≤ countAfter γ k m c g) × (countAfter γ k m c g < 256 ^ countSize)
+  count-rises Read m c g n v h x small = (omega arith, small)
+  count-rises Entry m c g n v h x small = (omega arith, small)
+  count-rises Page m c g n v h x small = (omega arith, small)
+  count-rises (Change u) m c g n v h x small =
+      let unspent = x u refl in
+      raised (count m) (groupOf γ (c .block)) g (λ e. omega arith) small
+  count-rises Sync m c g n v h x small = (omega arith, small)
+  count-rises Restart m c g n v h x small =
+      raised (count m) (held γ m) g (λ e. v .unspent (λ none-held. omega (arith, v .most))) small
+  count-rises NewSalt m c g n v h x small = absurd (n refl)
+  count-rises Identify m c g n v h x small = (omega arith, small)
+  count-rises Unknown m c g n v h x small = (omega arith, small)
+
+  counted-after : (g n : ℕ) (t : Box) (c : Command) → SaltStays γ t (Given c) → Counted γ g n t → refusal γ t c ≡ 0 → Counted γ g n (step γ t c .box)
+  counted-after g n t c stays h r =
+      let k = kindOf c in
+      let a = accepted-after σ t c r in
+      let rises =
+      count-rises k (t .memory) c g (λ e. stays (step-number σ t c ∙ r) (new-salt-number (c .kind) (c .value) e))
+      (facts σ (t .memory) (h .valid .memory)) (h .of-box) (λ u e. changes σ u t c (all-yes σ (Change u) t c e r) .unspent) (h .small) in
+      let same = a .counts g (h .of-box) in
       record {
-        valid = accepted-valid s c r;
-        of-box =
-            subst (λ (n : ℕ). groupOf (c .block) < n) (sym (accepted-after s c r .same-groups)) (changed-group u s c (changes u s c updated-yes));
-        more = omega arith;
-        small = omega (arith, unspent-before);
+        valid = accepted-valid σ t c r;
+        of-box = subst (λ (i : ℕ). g < i) (sym (a .same-groups)) (h .of-box);
+        more = omega (arith, rises .0, h .more);
+        small = subst (λ (i : ℕ). i < 256 ^ countSize) (sym same) (rises .1);
       }
 
-  -- what it answers is a page with its tag
-  answered-tag : broughtTag (step s c .answer) ≡ tag (step s c .box .memory) (groupOf (c .block)) (broughtPage (step s c .answer))
-  answered-tag =
-      let m = step s c .box .memory in
-      let g = groupOf (c .block) in
-      let p = changedPage u c in
-      let size = changed-length u c (changes u s c updated-yes .proof) in
-      subst (λ (l : List ℕ). broughtTag l ≡ tag m g (broughtPage l)) (sym (changed-answer u s c e r))
-      (tagged-tag m g p size ∙ ap (tag m g) (sym (tagged-page m g p size)))
+  counted-run : (g n : ℕ) (t : Box) (es : List Event) → Throughout γ (SaltStays γ) t es → Counted γ g n t → Counted γ g n (run γ t es)
+  counted-run g n t [] stays h = h
+  counted-run g n t (Given c ∷ es) stays h =
+      counted-run g n (after γ t (Given c)) es (stays .1)
+      (⊎-elim (λ r. counted-after g n t c (stays .0) h r) (λ e. subst (Counted γ g n) (sym e) h) (accepted-or-same σ t c))
 
--- a restart after it counts once more
-counted-restart : (u : Update) (s : Box) (c r : Command) → kindOf c ≡ Change u → kindOf r ≡ Restart → refusal s c ≡ 0
-    → refusal (step s c .box) r ≡ 0
-    → Counted (groupOf (c .block)) (count (step s c .box .memory) (groupOf (c .block))) (step (step s c .box) r .box)
-counted-restart u s c r ec er rc rr =
-    let g = groupOf (c .block) in
-    let t = step s c .box in
-    let h = counted-update u s c ec rc in
-    let is-held = own-held u s c ec rc in
-    let of-box : held (t .memory) < groups (t .memory) = subst (λ (i : ℕ). i < groups (t .memory)) (sym is-held) (h .of-box) in
-    let up : count (step t r .box .memory) g ≡ count (t .memory) g + 1 =
-    subst (λ (i : ℕ). count (step t r .box .memory) i ≡ count (t .memory) i + 1) is-held (lost-count t r er rr of-box) in
-    record {
-      valid = accepted-valid t r rr;
-      of-box = subst (λ (n : ℕ). g < n) (sym (accepted-after t r rr .same-groups)) (h .of-box);
-      more = omega arith;
-      small = omega (arith, unspent-before u s c ec rc, own-count u s c ec rc);
-    }
+  -- ---- the old page and the lost page
 
--- a memory's size, from the valid box
-box-size : (t : Box) → ValidBox t → length (t .memory) ≡ memorySize
-box-size t v = facts (t .memory) (v .memory) .size
+  -- after an accepted update its group is counted
+  module _ (u : Update) (s : Box) (c : Command) (e : kindOf c ≡ Change u) (r : refusal γ s c ≡ 0) where
+    updated-yes : AllYes (questionsTo γ (Change u) s c)
+    updated-yes = all-yes σ (Change u) s c e r
 
-pub old-page-refused : OldPageRefused
-unfolding OldPageRefused
-old-page-refused s c es d u v ec ed a stays same proof differ =
-    let r = accepts s c a in
-    let g = groupOf (c .block) in
-    let h = counted-run g (count (s .memory) g) (step s c .box) es stays (counted-update u s c ec r) in
-    let unspent = unspent-before u s c ec r in
-    stale (s .memory) g (run (step s c .box) es) d v ed same
-    (subst (λ (p : List ℕ). broughtTag p ≡ tag (s .memory) g (broughtPage p)) (sym proof) (seventh-yes u s c (all-seven u s c (updated-yes u s c ec r))))
-    (passed (Change u) s c (updated-yes u s c ec r) .memory .size) (box-size (run (step s c .box) es) (h .valid))
-    (omega arith) (h .small) (λ e. omega (arith, h .more))
-    (subst (λ (p : List ℕ). TagsDiffer (s .memory) (run (step s c .box) es .memory) g (broughtPage p)) (sym proof) differ)
+    unspent-before : count (s .memory) (groupOf γ (c .block)) < countLimit
+    unspent-before = changes σ u s c updated-yes .unspent
 
-pub lost-page-refused : LostPageRefused
-unfolding LostPageRefused
-lost-page-refused s c r es d u v ec kr ed a b stays same proof differ =
-    let g = groupOf (c .block) in
-    let t = step s c .box in
-    let ra = accepts s c a in
-    let er = restart-kind (r .kind) (r .value) kr in
-    let before = counted-update u s c ec ra in
-    let h = counted-run g (count (t .memory) g) (step t r .box) es stays (counted-restart u s c r ec er ra (accepts t r b)) in
-    stale (t .memory) g (run (step t r .box) es) d v ed same
-    (subst (λ (p : List ℕ). broughtTag p ≡ tag (t .memory) g (broughtPage p)) (sym proof) (answered-tag u s c ec ra))
-    (box-size t (before .valid)) (box-size (run (step t r .box) es) (h .valid)) (before .small) (h .small) (λ e. omega (arith, h .more))
-    (subst (λ (p : List ℕ). TagsDiffer (t .memory) (run (step t r .box) es .memory) g (broughtPage p)) (sym proof) differ)
+    counted-update : Counted γ (groupOf γ (c .block)) (count (s .memory) (groupOf γ (c .block))) (step γ s c .box)
+    counted-update =
+        let up = own-count σ u s c e r in
+        record {
+          valid = accepted-valid σ s c r;
+          of-box =
+              subst (λ (n : ℕ). groupOf γ (c .block) < n) (sym (accepted-after σ s c r .same-groups)) (changed-group σ u s c (changes σ u s c updated-yes));
+          more = omega arith;
+          small = omega (arith, unspent-before);
+        }
 
-pub on-no-page : OnNoPage
-unfolding physical
-on-no-page = record { not-at-64 = λ e. omega arith; on-no-page = physical-page }
+    -- what it answers is a page with its tag
+    answered-tag : broughtTag γ (step γ s c .answer) ≡ tag γ (step γ s c .box .memory) (groupOf γ (c .block)) (broughtPage γ (step γ s c .answer))
+    answered-tag =
+        let m = step γ s c .box .memory in
+        let g = groupOf γ (c .block) in
+        let p = changedPage γ u c in
+        let size = changed-length σ u c (changes σ u s c updated-yes .proof) in
+        subst (λ (l : List ℕ). broughtTag γ l ≡ tag γ m g (broughtPage γ l)) (sym (changed-answer σ u s c e r))
+        (tagged-tag σ m g p size ∙ ap (tag γ m g) (sym (tagged-page σ m g p size)))
+
+  -- a restart after it counts once more
+  counted-restart : (u : Update) (s : Box) (c r : Command) → kindOf c ≡ Change u → kindOf r ≡ Restart → refusal γ s c ≡ 0
+      → refusal γ (step γ s c .box) r ≡ 0
+      → Counted γ (groupOf γ (c .block)) (count (step γ s c .box .memory) (groupOf γ (c .block))) (step γ (step γ s c .box) r .box)
+  counted-restart u s c r ec er rc rr =
+      let g = groupOf γ (c .block) in
+      let t = step γ s c .box in
+      let h = counted-update u s c ec rc in
+      let is-held = own-held σ u s c ec rc in
+      let of-box : held γ (t .memory) < groups γ (t .memory) = subst (λ (i : ℕ). i < groups γ (t .memory)) (sym is-held) (h .of-box) in
+      let up : count (step γ t r .box .memory) g ≡ count (t .memory) g + 1 =
+      subst (λ (i : ℕ). count (step γ t r .box .memory) i ≡ count (t .memory) i + 1) is-held (lost-count σ t r er rr of-box) in
+      record {
+        valid = accepted-valid σ t r rr;
+        of-box = subst (λ (n : ℕ). g < n) (sym (accepted-after σ t r rr .same-groups)) (h .of-box);
+        more = omega arith;
+        small = omega (arith, unspent-before u s c ec rc, own-count σ u s c ec rc);
+      }
+
+  -- a memory's size, from the valid box
+  box-size : (t : Box) → ValidBox γ t → length (t .memory) ≡ memorySize γ
+  box-size t v = facts σ (t .memory) (v .memory) .size
+
+  pub old-page-refused : OldPageRefused γ
+  unfolding OldPageRefused
+  old-page-refused s c es d u v ec ed a stays same proof differ =
+      let r = accepts σ s c a in
+      let g = groupOf γ (c .block) in
+      let h = counted-run g (count (s .memory) g) (step γ s c .box) es stays (counted-update u s c ec r) in
+      let unspent = unspent-before u s c ec r in
+      stale (s .memory) g (run γ (step γ s c .box) es) d v ed same
+      (subst (λ (p : List ℕ). broughtTag γ p ≡ tag γ (s .memory) g (broughtPage γ p)) (sym proof)
+      (seventh-yes σ u s c (all-seven σ u s c (updated-yes u s c ec r))))
+      (passed σ (Change u) s c (updated-yes u s c ec r) .memory .size) (box-size (run γ (step γ s c .box) es) (h .valid))
+      (omega arith) (h .small) (λ e. omega (arith, h .more))
+      (subst (λ (p : List ℕ). TagsDiffer γ (s .memory) (run γ (step γ s c .box) es .memory) g (broughtPage γ p)) (sym proof) differ)
+
+  pub lost-page-refused : LostPageRefused γ
+  unfolding LostPageRefused
+  lost-page-refused s c r es d u v ec kr ed a b stays same proof differ =
+      let g = groupOf γ (c .block) in
+      let t = step γ s c .box in
+      let ra = accepts σ s c a in
+      let er = restart-kind (r .kind) (r .value) kr in
+      let before = counted-update u s c ec ra in
+      let h = counted-run g (count (t .memory) g) (step γ t r .box) es stays (counted-restart u s c r ec er ra (accepts σ t r b)) in
+      stale (t .memory) g (run γ (step γ t r .box) es) d v ed same
+      (subst (λ (p : List ℕ). broughtTag γ p ≡ tag γ (t .memory) g (broughtPage γ p)) (sym proof) (answered-tag u s c ec ra))
+      (box-size t (before .valid)) (box-size (run γ (step γ t r .box) es) (h .valid)) (before .small) (h .small) (λ e. omega (arith, h .more))
+      (subst (λ (p : List ℕ). TagsDiffer γ (t .memory) (run γ (step γ t r .box) es .memory) g (broughtPage γ p)) (sym proof) differ)
+
+  pub on-no-page : OnNoPage γ
+  unfolding pageBlock
+  on-no-page =
+      record { not-at-page-0 = λ e. physical-page σ (groupData γ) 0 (e ∙ omega arith); on-no-page = physical-page σ }

@@ -6,6 +6,8 @@ use native.Mathlib.Omega.{arith}
 use borrow.Author.Tests.{eqb-true}
 use lib.ListN.{length}
 use Rattle.octets.specs.Part.{AreBytes}
+use Rattle.lockpage.specs.Geometry.{Geometry, Proper, base, present}
+use Rattle.lockpage.proofs.GeometryLaw.{base-proper, present-proper}
 use Rattle.addressing.specs.Map.{diskSize}
 use Rattle.memory.specs.Memory.{groups}
 use Rattle.validity.proofs.ValidLaw.{facts}
@@ -40,130 +42,142 @@ use Rattle.machine.proofs.AlikeLaw.{start-shown, read-in}
 
 pub papers-sizes : PapersSizes
 papers-sizes =
-    record { tag = refl; proof = refl; answer = refl; message = λ m g page l n. message-length m g page l ∙ omega arith }
+    record { tag = refl; proof = refl; answer = refl; message = λ m g page l n. message-length base-proper m g page l ∙ omega arith }
 
-pub passes-if-all-yes : PassesIfAllYes
-unfolding PassesIfAllYes refusal questions
-passes-if-all-yes s c =
-    record {
-      passes = λ h. step-number s c ∙ yes-accepted (questions s c) h;
-      only = λ a. all-yes (kindOf c) s c refl (accepts s c a);
-    }
+-- γ is any proper geometry
+module _ {γ : Geometry} (σ : Proper γ) where
+  pub passes-if-all-yes : PassesIfAllYes γ
+  unfolding PassesIfAllYes refusal questions
+  passes-if-all-yes s c =
+      record {
+        passes = λ h. step-number σ s c ∙ yes-accepted (questions γ s c) h;
+        only = λ a. all-yes σ (kindOf c) s c refl (accepts σ s c a);
+      }
 
-pub kinds-are-one-to-ten : KindsAreOneToTen
-unfolding KindsAreOneToTen
-kinds-are-one-to-ten = one-to-ten
+  pub kinds-are-one-to-ten : KindsAreOneToTen γ
+  unfolding KindsAreOneToTen
+  kinds-are-one-to-ten = one-to-ten σ
 
-pub number-is-first-no : NumberIsFirstNo
-unfolding NumberIsFirstNo refusal
-number-is-first-no s c =
-    record {
-      first =
-          λ n.
-          subst (λ (k : ℕ). IsFirstNo k (questions s c)) (sym (step-number s c))
-          (first-no (questions s c) (λ e. n (step-number s c ∙ e)));
-      only = λ n f. step-number s c ∙ first-no-only n (questions s c) f;
-    }
+  pub number-is-first-no : NumberIsFirstNo γ
+  unfolding NumberIsFirstNo refusal
+  number-is-first-no s c =
+      record {
+        first =
+            λ n.
+            subst (λ (k : ℕ). IsFirstNo k (questions γ s c)) (sym (step-number σ s c))
+            (first-no (questions γ s c) (λ e. n (step-number σ s c ∙ e)));
+        only = λ n f. step-number σ s c ∙ first-no-only n (questions γ s c) f;
+      }
 
-pub refusal-alters-nothing : RefusalAltersNothing
-unfolding RefusalAltersNothing
-refusal-alters-nothing s c n = refused-unaltered s c (λ e. n (step-number s c ∙ e))
+  pub refusal-alters-nothing : RefusalAltersNothing γ
+  unfolding RefusalAltersNothing
+  refusal-alters-nothing s c n = refused-unaltered σ s c (λ e. n (step-number σ s c ∙ e))
 
-pub accepted-leaves-valid : AcceptedLeavesValid
-unfolding AcceptedLeavesValid
-accepted-leaves-valid s c a = accepted-valid s c (accepts s c a)
+  pub accepted-leaves-valid : AcceptedLeavesValid γ
+  unfolding AcceptedLeavesValid
+  accepted-leaves-valid s c a = accepted-valid σ s c (accepts σ s c a)
 
-pub stays-valid : StaysValid
-unfolding StaysValid
-stays-valid = run-valid
+  pub stays-valid : StaysValid γ
+  unfolding StaysValid
+  stays-valid = run-valid σ
 
-pub invalid-refuses : InvalidRefuses
-unfolding InvalidRefuses
-invalid-refuses s c n =
-    let h =
-    refused-by-second s c
-    (λ y. n (record { memory = y .0; disk = eqb-true (length (s .disk)) (diskSize (groups (s .memory))) (y .1 .0) })) in
-    (refused-by 2 s c h, refused-unaltered s c (λ e. omega (arith, h .0)) .box)
+  pub invalid-refuses : InvalidRefuses γ
+  unfolding InvalidRefuses
+  invalid-refuses s c n =
+      let h =
+      refused-by-second σ s c
+      (λ y. n (record { memory = y .0; disk = eqb-true (length (s .disk)) (diskSize γ (groups γ (s .memory))) (y .1 .0) })) in
+      (refused-by σ 2 s c h, refused-unaltered σ s c (λ e. omega (arith, h .0)) .box)
 
-pub step-keeps-bytes : StepKeepsBytes
-unfolding StepKeepsBytes
-step-keeps-bytes s c b d =
-    same-or-not (refusal s c) 0 (λ r. accepted-bytes s c r b d)
-    (λ n.
-    let same = refused-unaltered s c n in
-    record { box = subst ByteBox (sym (same .box)) b; answer = subst (λ (l : List ℕ). AreBytes l) (sym (same .answer)) (d .answer) })
+  pub step-keeps-bytes : StepKeepsBytes γ
+  unfolding StepKeepsBytes
+  step-keeps-bytes s c b d =
+      same-or-not (refusal γ s c) 0 (λ r. accepted-bytes σ s c r b d)
+      (λ n.
+      let same = refused-unaltered σ s c n in
+      record { box = subst ByteBox (sym (same .box)) b; answer = subst (λ (l : List ℕ). AreBytes l) (sym (same .answer)) (d .answer) })
 
--- the lengths that the questions ask for are those after
-accepted-lengths : (s : Box) (c : Command) → refusal s c ≡ 0 → SameLengths s c
-accepted-lengths s c r =
-    let q = passed (kindOf c) s c (all-yes (kindOf c) s c refl r) in
-    let v = accepted-valid s c r in
-    record {
-      memory = facts (step s c .box .memory) (v .memory) .size ∙ sym (q .memory .size);
-      disk = v .disk ∙ ap diskSize (accepted-after s c r .same-groups) ∙ sym (q .disk);
-      answer = answer-length s c r ∙ sym (q .answer);
-    }
+  -- the lengths that the questions ask for are those after
+  accepted-lengths : (s : Box) (c : Command) → refusal γ s c ≡ 0 → SameLengths γ s c
+  accepted-lengths s c r =
+      let q = passed σ (kindOf c) s c (all-yes σ (kindOf c) s c refl r) in
+      let v = accepted-valid σ s c r in
+      record {
+        memory = facts σ (step γ s c .box .memory) (v .memory) .size ∙ sym (q .memory .size);
+        disk = v .disk ∙ ap (diskSize γ) (accepted-after σ s c r .same-groups) ∙ sym (q .disk);
+        answer = answer-length σ s c r ∙ sym (q .answer);
+      }
 
-pub step-keeps-lengths : StepKeepsLengths
-unfolding StepKeepsLengths
-step-keeps-lengths s c =
-    same-or-not (refusal s c) 0 (accepted-lengths s c)
-    (λ n.
-    let same = refused-unaltered s c n in
-    record {
-      memory = ap (λ (t : Box). length (t .memory)) (same .box);
-      disk = ap (λ (t : Box). length (t .disk)) (same .box);
-      answer = ap (λ (l : List ℕ). length l) (same .answer);
-    })
+  pub step-keeps-lengths : StepKeepsLengths γ
+  unfolding StepKeepsLengths
+  step-keeps-lengths s c =
+      same-or-not (refusal γ s c) 0 (accepted-lengths s c)
+      (λ n.
+      let same = refused-unaltered σ s c n in
+      record {
+        memory = ap (λ (t : Box). length (t .memory)) (same .box);
+        disk = ap (λ (t : Box). length (t .disk)) (same .box);
+        answer = ap (λ (l : List ℕ). length l) (same .answer);
+      })
 
-pub formatting-formats : FormattingFormats
-unfolding FormattingFormats
-formatting-formats = format.formats
+  pub formatting-formats : FormattingFormats γ
+  unfolding FormattingFormats
+  formatting-formats = format.formats σ
 
--- ---- specs/After.antt
+  -- ---- specs/After.antt
 
-pub accepted-does : AcceptedDoes
-unfolding AcceptedDoes
-accepted-does s c a = accepted-after s c (accepts s c a)
+  pub accepted-does : AcceptedDoes γ
+  unfolding AcceptedDoes
+  accepted-does s c a = accepted-after σ s c (accepts σ s c a)
 
-pub new-salt-differs : NewSaltDiffers
-unfolding NewSaltDiffers
-new-salt-differs s c a k = after.new-salt-differs s c (new-salt-kind (c .kind) (c .value) k) (accepts s c a)
+  pub new-salt-differs : NewSaltDiffers γ
+  unfolding NewSaltDiffers
+  new-salt-differs s c a k = after.new-salt-differs σ s c (new-salt-kind (c .kind) (c .value) k) (accepts σ s c a)
 
-pub answers-serve : AnswersServe
-unfolding AnswersServe
-answers-serve s c a = answer-serves s c (accepts s c a)
+  pub answers-serve : AnswersServe γ
+  unfolding AnswersServe
+  answers-serve s c a = answer-serves σ s c (accepts σ s c a)
 
-pub held-page-first : HeldPageFirst
-held-page-first = held-first
+  pub held-page-first : HeldPageFirst γ
+  held-page-first = held-first σ
 
--- ---- specs/Shortcuts.antt and specs/EdgeValues.antt
+  -- ---- specs/Shortcuts.antt
 
-pub shortcuts : Shortcuts
-shortcuts =
-    record {
-      not-free-before-expiry = shortcut.not-free-before-expiry;
-      old-page-refused = shortcut.old-page-refused;
-      lost-page-refused = shortcut.lost-page-refused;
-      on-no-page = shortcut.on-no-page;
-      second-unfreeze-refused = shortcut.second-unfreeze-refused;
-    }
+  pub shortcuts : Shortcuts γ
+  shortcuts =
+      record {
+        not-free-before-expiry = shortcut.not-free-before-expiry σ;
+        old-page-refused = shortcut.old-page-refused σ;
+        lost-page-refused = shortcut.lost-page-refused σ;
+        on-no-page = shortcut.on-no-page σ;
+        second-unfreeze-refused = shortcut.second-unfreeze-refused σ;
+      }
+
+  -- ---- specs/Protection.antt
+
+  pub demand-3 : Demand3 γ
+  unfolding Demand3
+  demand-3 s b xs ys bytes n u v =
+      (start-shown σ s b xs ys bytes n xs u (λ x y. x), start-shown σ s b xs ys bytes n ys v (λ x y. y))
+
+  pub reads-alike : ReadsAlike γ
+  unfolding ReadsAlike Demand3
+  reads-alike s b xs ys bytes n u v c d x y p q =
+      let both = demand-3 s b xs ys bytes n u v in
+      read-in σ s b xs ys xs (both .0) c x p ∙ sym (read-in σ s b xs ys ys (both .1) d y q)
+
+-- ---- specs/EdgeValues.antt and specs/Example.antt
 
 pub edge-values : EdgeValues
 edge-values = edge.edge-values
 
--- ---- specs/Protection.antt
-
-pub demand-3 : Demand3
-unfolding Demand3
-demand-3 s b xs ys bytes n u v =
-    (start-shown s b xs ys bytes n xs u (λ x y. x), start-shown s b xs ys bytes n ys v (λ x y. y))
-
 pub premises-met : PremisesMet
 premises-met = example.premises-met
 
-pub reads-alike : ReadsAlike
-unfolding ReadsAlike Demand3
-reads-alike s b xs ys bytes n u v c d x y p q =
-    let both = demand-3 s b xs ys bytes n u v in
-    read-in s b xs ys xs (both .0) c x p ∙ sym (read-in s b xs ys ys (both .1) d y q)
+-- ---- demand 3 of document 01's box, and of the box that the code runs
+
+pub base-demand-3 : Demand3 base
+base-demand-3 = demand-3 base-proper
+
+pub present-demand-3 : Demand3 present
+present-demand-3 = demand-3 present-proper

@@ -6,6 +6,7 @@ use mathlib.Core.List.{List, [], _∷_, _++_}
 use Prim.Native.Nat.{ℕ, _+_, _<_}
 use native.Mathlib.Omega.{arith}
 use lib.ListN.{length}
+use Rattle.lockpage.specs.Geometry.{Geometry, Proper}
 use Rattle.lockpage.specs.Size.{pageSize}
 use Rattle.lockpage.specs.declared.Update.{Update}
 use Rattle.addressing.specs.Map.{diskSize, groupOf}
@@ -28,95 +29,97 @@ use Rattle.machine.proofs.StepLaw.{step-accepted, accepted-or-same}
 use Rattle.machine.proofs.PassedLaw.{Passed, Changes, passed, passed-timed, changed-group, accepted-changes}
 use Rattle.machine.proofs.EffectLaw.{left, EachStore, Whole, each-append, each-evicted, put-whole, content-whole, stored-length, changed-length, count-changed, changed-reads, restarted-none, restarted-held, restarted-groups, salted-reads}
 
-pub valid-box : (k : Kind) (s : Box) (c : Command) → Passed k s c → ValidBox s
-valid-box k s c q = record { memory = is-valid (s .memory) (q .memory); disk = q .disk }
+-- γ is any proper geometry
+module _ {γ : Geometry} (σ : Proper γ) where
+  pub valid-box : (k : Kind) (s : Box) (c : Command) → Passed γ k s c → ValidBox γ s
+  valid-box k s c q = record { memory = is-valid σ (s .memory) (q .memory); disk = q .disk }
 
--- ---- the memory after
+  -- ---- the memory after
 
-changed-valid : (m : List ℕ) → Valid m → (g : ℕ) (p : List ℕ) → g < groups m → count m g < countLimit → length p ≡ pageSize
-    → valid (changedMemory m g p) ≡ true
-unfolding changedMemory
-changed-valid m v g p h l n =
-    let m₁ = withCount m g (count m g + 1) in
-    let r = count-set m (v .size) g (count m g + 1) (omega (arith, v .most)) (omega arith) in
-    let v₁ = facts m₁ (valid-count m v g (count m g + 1) h (omega arith) (λ e. (omega arith, omega arith))) in
-    let counted : count m₁ g ≡ count m g + 1 = r .count g (omega (arith, v .most)) ∙ count-changed (count m) g (count m g + 1) in
-    valid-holding m₁ v₁ g p (omega (arith, r .groups)) (omega arith) (omega arith) n
+  changed-valid : (m : List ℕ) → Valid γ m → (g : ℕ) (p : List ℕ) → g < groups γ m → count m g < countLimit → length p ≡ pageSize γ
+      → valid γ (changedMemory γ m g p) ≡ true
+  unfolding changedMemory
+  changed-valid m v g p h l n =
+      let m₁ = withCount m g (count m g + 1) in
+      let r = count-set σ m (v .size) g (count m g + 1) (omega (arith, v .most)) (omega arith) in
+      let v₁ = facts σ m₁ (valid-count σ m v g (count m g + 1) h (omega arith) (λ e. (omega arith, omega arith))) in
+      let counted : count m₁ g ≡ count m g + 1 = r .count g (omega (arith, v .most)) ∙ count-changed (count m) g (count m g + 1) in
+      valid-holding σ m₁ v₁ g p (omega (arith, r .groups)) (omega arith) (omega arith) n
 
-restarted-valid : (m : List ℕ) → Valid m → valid (restarted m) ≡ true
-restarted-valid m v =
-    same-or-not (held m) none
-    (λ n. ap valid (restarted-none m n) ∙ is-valid m v)
-    (λ n.
-    let dropped = page-dropped m (v .size) in
-    ap valid (restarted-held m n)
-    ∙ valid-count (holdingNone m) (facts (holdingNone m) (valid-none m v)) (held m) (count m (held m) + 1)
-    (omega (arith, dropped .groups, v .group n)) (omega (arith, v .unspent n))
-    (λ e. absurd (n (sym e ∙ dropped .held))))
+  restarted-valid : (m : List ℕ) → Valid γ m → valid γ (restarted γ m) ≡ true
+  restarted-valid m v =
+      same-or-not (held γ m) none
+      (λ n. ap (valid γ) (restarted-none σ m n) ∙ is-valid σ m v)
+      (λ n.
+      let dropped = page-dropped σ m (v .size) in
+      ap (valid γ) (restarted-held σ m n)
+      ∙ valid-count σ (holdingNone γ m) (facts σ (holdingNone γ m) (valid-none σ m v)) (held γ m) (count m (held γ m) + 1)
+      (omega (arith, dropped .groups, v .group n)) (omega (arith, v .unspent n))
+      (λ e. absurd (n (sym e ∙ dropped .held))))
 
-salted-valid : (m s : List ℕ) → Valid m → length s ≡ saltSize → valid (salted m s) ≡ true
-unfolding salted
-salted-valid m s v l =
-    let v₁ = facts (holdingNone m) (valid-none m v) in
-    let v₂ = facts (withNoCounts (holdingNone m)) (valid-no-counts (holdingNone m) v₁ (page-dropped m (v .size) .held)) in
-    valid-salt (withNoCounts (holdingNone m)) v₂ s l
+  salted-valid : (m s : List ℕ) → Valid γ m → length s ≡ saltSize → valid γ (salted γ m s) ≡ true
+  unfolding salted
+  salted-valid m s v l =
+      let v₁ = facts σ (holdingNone γ m) (valid-none σ m v) in
+      let v₂ = facts σ (withNoCounts γ (holdingNone γ m)) (valid-no-counts σ (holdingNone γ m) v₁ (page-dropped σ m (v .size) .held)) in
+      valid-salt σ (withNoCounts γ (holdingNone γ m)) v₂ s l
 
--- ---- by kind
+  -- ---- by kind
 
--- the disk after stores that are whole blocks, with a memory of as many groups
-with-disk : (s : Box) (m : List ℕ) (xs : List Store) → valid m ≡ true → groups m ≡ groups (s .memory)
-    → length (s .disk) ≡ diskSize (groups (s .memory)) → EachStore (Whole (groups (s .memory))) xs → ValidBox (boxOf m (stored (s .disk) xs))
-with-disk s m xs v e l w =
-    record { memory = v; disk = stored-length (groups (s .memory)) (s .disk) xs w l ∙ ap diskSize (sym e) }
+  -- the disk after stores that are whole blocks, with a memory of as many groups
+  with-disk : (s : Box) (m : List ℕ) (xs : List Store) → valid γ m ≡ true → groups γ m ≡ groups γ (s .memory)
+      → length (s .disk) ≡ diskSize γ (groups γ (s .memory)) → EachStore (Whole γ (groups γ (s .memory))) xs → ValidBox γ (boxOf m (stored γ (s .disk) xs))
+  with-disk s m xs v e l w =
+      record { memory = v; disk = stored-length σ (groups γ (s .memory)) (s .disk) xs w l ∙ ap (diskSize γ) (sym e) }
 
-change-valid : (u : Update) (s : Box) (c : Command) → Passed (Change u) s c → Changes u s c → ValidBox (left s (change u s c))
-unfolding change
-change-valid u s c q x =
-    let m = s .memory in
-    let v = q .memory in
-    let g = groupOf (c .block) in
-    let h = changed-group u s c x in
-    let p = changedPage u c in
-    let n = changed-length u c (x .proof) in
-    let r = changed-reads m (v .size) g p (omega (arith, v .most)) (omega (arith, x .unspent)) n in
-    with-disk s (changedMemory m g p) (evict m g ++ putContent u (c .block) (c .content)) (changed-valid m v g p h (x .unspent) n) (r .groups)
-    (q .disk)
-    (each-append (Whole (groups m)) (evict m g) (putContent u (c .block) (c .content))
-    (each-evicted (Whole (groups m)) m g (put-whole m v))
-    (content-whole u (groups m) (c .block) (c .content) (q .content) (x .range)))
+  change-valid : (u : Update) (s : Box) (c : Command) → Passed γ (Change u) s c → Changes γ u s c → ValidBox γ (left γ s (change γ u s c))
+  unfolding change
+  change-valid u s c q x =
+      let m = s .memory in
+      let v = q .memory in
+      let g = groupOf γ (c .block) in
+      let h = changed-group σ u s c x in
+      let p = changedPage γ u c in
+      let n = changed-length σ u c (x .proof) in
+      let r = changed-reads σ m (v .size) g p (omega (arith, v .most)) (omega (arith, x .unspent)) n in
+      with-disk s (changedMemory γ m g p) (evict γ m g ++ putContent γ u (c .block) (c .content)) (changed-valid m v g p h (x .unspent) n) (r .groups)
+      (q .disk)
+      (each-append (Whole γ (groups γ m)) (evict γ m g) (putContent γ u (c .block) (c .content))
+      (each-evicted σ (Whole γ (groups γ m)) m g (put-whole σ m v))
+      (content-whole σ u (groups γ m) (c .block) (c .content) (q .content) (x .range)))
 
-effect-valid : (k : Kind) (s : Box) (c : Command) → Passed k s c → ((u : Update) → k ≡ Change u → Changes u s c)
-    → ValidBox (left s (effect k s c))
-unfolding effect read showEntry showPage sync restart newSalt identify stored
-effect-valid Read s c q x = valid-box Read s c q
-effect-valid Entry s c q x = valid-box Entry s c q
-effect-valid Page s c q x = valid-box Page s c q
-effect-valid (Change u) s c q x = change-valid u s c q (x u refl)
-effect-valid Sync s c q x =
-    let r = page-dropped (s .memory) (q .memory .size) in
-    with-disk s (holdingNone (s .memory)) (putHeld (s .memory)) (valid-none (s .memory) (q .memory)) (r .groups) (q .disk)
-    (put-whole (s .memory) (q .memory))
-effect-valid Restart s c q x =
-    with-disk s (restarted (s .memory)) [] (restarted-valid (s .memory) (q .memory)) (restarted-groups (s .memory) (q .memory)) (q .disk) tt
-effect-valid NewSalt s c q x =
-    let r = salted-reads (s .memory) (c .content) (q .memory .size) (q .content) in
-    with-disk s (salted (s .memory) (c .content)) (putHeld (s .memory))
-    (salted-valid (s .memory) (c .content) (q .memory) (q .content)) (r .groups) (q .disk) (put-whole (s .memory) (q .memory))
-effect-valid Identify s c q x = valid-box Identify s c q
-effect-valid Unknown s c q x = valid-box Unknown s c q
+  effect-valid : (k : Kind) (s : Box) (c : Command) → Passed γ k s c → ((u : Update) → k ≡ Change u → Changes γ u s c)
+      → ValidBox γ (left γ s (effect γ k s c))
+  unfolding effect read showEntry showPage sync restart newSalt identify stored
+  effect-valid Read s c q x = valid-box Read s c q
+  effect-valid Entry s c q x = valid-box Entry s c q
+  effect-valid Page s c q x = valid-box Page s c q
+  effect-valid (Change u) s c q x = change-valid u s c q (x u refl)
+  effect-valid Sync s c q x =
+      let r = page-dropped σ (s .memory) (q .memory .size) in
+      with-disk s (holdingNone γ (s .memory)) (putHeld γ (s .memory)) (valid-none σ (s .memory) (q .memory)) (r .groups) (q .disk)
+      (put-whole σ (s .memory) (q .memory))
+  effect-valid Restart s c q x =
+      with-disk s (restarted γ (s .memory)) [] (restarted-valid (s .memory) (q .memory)) (restarted-groups σ (s .memory) (q .memory)) (q .disk) tt
+  effect-valid NewSalt s c q x =
+      let r = salted-reads σ (s .memory) (c .content) (q .memory .size) (q .content) in
+      with-disk s (salted γ (s .memory) (c .content)) (putHeld γ (s .memory))
+      (salted-valid (s .memory) (c .content) (q .memory) (q .content)) (r .groups) (q .disk) (put-whole σ (s .memory) (q .memory))
+  effect-valid Identify s c q x = valid-box Identify s c q
+  effect-valid Unknown s c q x = valid-box Unknown s c q
 
--- ---- a command, and a run
+  -- ---- a command, and a run
 
-pub accepted-valid : (s : Box) (c : Command) → refusal s c ≡ 0 → ValidBox (step s c .box)
-unfolding done timed
-accepted-valid s c r =
-    let k = kindOf c in
-    let q = passed k s c (all-yes k s c refl r) in
-    subst (λ (o : Outcome). ValidBox (o .box)) (sym (step-accepted k s c refl r))
-    (effect-valid k (timed s (c .now)) c (passed-timed k s c q) (accepted-changes k s c refl r))
+  pub accepted-valid : (s : Box) (c : Command) → refusal γ s c ≡ 0 → ValidBox γ (step γ s c .box)
+  unfolding done timed
+  accepted-valid s c r =
+      let k = kindOf c in
+      let q = passed σ k s c (all-yes σ k s c refl r) in
+      subst (λ (o : Outcome). ValidBox γ (o .box)) (sym (step-accepted σ k s c refl r))
+      (effect-valid k (timed γ s (c .now)) c (passed-timed σ k s c q) (accepted-changes σ k s c refl r))
 
-pub run-valid : (s : Box) (es : List Event) → ValidBox s → ValidBox (run s es)
-run-valid s [] h = h
-run-valid s (Given c ∷ es) h =
-    run-valid (after s (Given c)) es
-    (⊎-elim (λ r. accepted-valid s c r) (λ e. subst ValidBox (sym e) h) (accepted-or-same s c))
+  pub run-valid : (s : Box) (es : List Event) → ValidBox γ s → ValidBox γ (run γ s es)
+  run-valid s [] h = h
+  run-valid s (Given c ∷ es) h =
+      run-valid (after γ s (Given c)) es
+      (⊎-elim (λ r. accepted-valid s c r) (λ e. subst (ValidBox γ) (sym e) h) (accepted-or-same σ s c))

@@ -5,6 +5,7 @@ use mathlib.Core.Bool.{true, false}
 use mathlib.Core.List.{List, [], _∷_}
 use Prim.Native.Nat.{ℕ, _+_, _<_}
 use lib.Dec.{eqb}
+use Rattle.lockpage.specs.Geometry.{Geometry}
 use Rattle.lockpage.specs.declared.Update.{Update}
 use Rattle.lockpage.specs.declared.Update.the-variants.{Write, Unfreeze, Increment}
 use Rattle.addressing.specs.Map.{groupOf, physical, pageBlock}
@@ -32,89 +33,91 @@ saltAfter NewSalt m c = c .content
 saltAfter Identify m c = salt m
 saltAfter Unknown m c = salt m
 
--- the count of group g: an update raises its group's by 1, a restart the held one's, a new salt makes all 0
-abbrev pub countAfter : Kind → List ℕ → Command → ℕ → ℕ
-countAfter Read m c g = count m g
-countAfter Entry m c g = count m g
-countAfter Page m c g = count m g
-countAfter (Change u) m c g = changed (count m) (groupOf (c .block)) (count m (groupOf (c .block)) + 1) g
-countAfter Sync m c g = count m g
-countAfter Restart m c g = changed (count m) (held m) (count m (held m) + 1) g
-countAfter NewSalt m c g = 0
-countAfter Identify m c g = count m g
-countAfter Unknown m c g = count m g
+-- γ is the box's geometry
+module _ (γ : Geometry) where
+  -- the count of group g: an update raises its group's by 1, a restart the held one's, a new salt makes all 0
+  abbrev pub countAfter : Kind → List ℕ → Command → ℕ → ℕ
+  countAfter Read m c g = count m g
+  countAfter Entry m c g = count m g
+  countAfter Page m c g = count m g
+  countAfter (Change u) m c g = changed (count m) (groupOf γ (c .block)) (count m (groupOf γ (c .block)) + 1) g
+  countAfter Sync m c g = count m g
+  countAfter Restart m c g = changed (count m) (held γ m) (count m (held γ m) + 1) g
+  countAfter NewSalt m c g = 0
+  countAfter Identify m c g = count m g
+  countAfter Unknown m c g = count m g
 
--- the held group
-abbrev pub heldAfter : Kind → List ℕ → Command → ℕ
-heldAfter Read m c = held m
-heldAfter Entry m c = held m
-heldAfter Page m c = held m
-heldAfter (Change u) m c = groupOf (c .block)
-heldAfter Sync m c = none
-heldAfter Restart m c = none
-heldAfter NewSalt m c = none
-heldAfter Identify m c = held m
-heldAfter Unknown m c = held m
+  -- the held group
+  abbrev pub heldAfter : Kind → List ℕ → Command → ℕ
+  heldAfter Read m c = held γ m
+  heldAfter Entry m c = held γ m
+  heldAfter Page m c = held γ m
+  heldAfter (Change u) m c = groupOf γ (c .block)
+  heldAfter Sync m c = none
+  heldAfter Restart m c = none
+  heldAfter NewSalt m c = none
+  heldAfter Identify m c = held γ m
+  heldAfter Unknown m c = held γ m
 
--- the current page of group g: an update's own group has the changed page, and a restart falls back to the disk's
-abbrev pub pageAfter : Kind → Box → Command → ℕ → List ℕ
-pageAfter Read s c g = currentPage s g
-pageAfter Entry s c g = currentPage s g
-pageAfter Page s c g = currentPage s g
-pageAfter (Change u) s c g = elim (eqb (groupOf (c .block)) g) [ true ↦ changedPage u c | false ↦ currentPage s g ]
-pageAfter Sync s c g = currentPage s g
-pageAfter Restart s c g = block (s .disk) (pageBlock g)
-pageAfter NewSalt s c g = currentPage s g
-pageAfter Identify s c g = currentPage s g
-pageAfter Unknown s c g = currentPage s g
+  -- the current page of group g: an update's own group has the changed page, and a restart falls back to the disk's
+  abbrev pub pageAfter : Kind → Box → Command → ℕ → List ℕ
+  pageAfter Read s c g = currentPage γ s g
+  pageAfter Entry s c g = currentPage γ s g
+  pageAfter Page s c g = currentPage γ s g
+  pageAfter (Change u) s c g = elim (eqb (groupOf γ (c .block)) g) [ true ↦ changedPage γ u c | false ↦ currentPage γ s g ]
+  pageAfter Sync s c g = currentPage γ s g
+  pageAfter Restart s c g = block γ (s .disk) (pageBlock γ g)
+  pageAfter NewSalt s c g = currentPage γ s g
+  pageAfter Identify s c g = currentPage γ s g
+  pageAfter Unknown s c g = currentPage γ s g
 
--- the content of data block a: only a write changes its own
-abbrev pub contentAfter : Kind → List ℕ → Command → ℕ → List ℕ
-contentAfter Read disk c a = block disk (physical a)
-contentAfter Entry disk c a = block disk (physical a)
-contentAfter Page disk c a = block disk (physical a)
-contentAfter (Change (Write lock)) disk c a = elim (eqb (c .block) a) [ true ↦ c .content | false ↦ block disk (physical a) ]
-contentAfter (Change Unfreeze) disk c a = block disk (physical a)
-contentAfter (Change (Increment value)) disk c a = block disk (physical a)
-contentAfter Sync disk c a = block disk (physical a)
-contentAfter Restart disk c a = block disk (physical a)
-contentAfter NewSalt disk c a = block disk (physical a)
-contentAfter Identify disk c a = block disk (physical a)
-contentAfter Unknown disk c a = block disk (physical a)
+  -- the content of data block a: only a write changes its own
+  abbrev pub contentAfter : Kind → List ℕ → Command → ℕ → List ℕ
+  contentAfter Read disk c a = block γ disk (physical γ a)
+  contentAfter Entry disk c a = block γ disk (physical γ a)
+  contentAfter Page disk c a = block γ disk (physical γ a)
+  contentAfter (Change (Write lock)) disk c a = elim (eqb (c .block) a) [ true ↦ c .content | false ↦ block γ disk (physical γ a) ]
+  contentAfter (Change Unfreeze) disk c a = block γ disk (physical γ a)
+  contentAfter (Change (Increment value)) disk c a = block γ disk (physical γ a)
+  contentAfter Sync disk c a = block γ disk (physical γ a)
+  contentAfter Restart disk c a = block γ disk (physical γ a)
+  contentAfter NewSalt disk c a = block γ disk (physical γ a)
+  contentAfter Identify disk c a = block γ disk (physical γ a)
+  contentAfter Unknown disk c a = block γ disk (physical γ a)
 
-pub record After (s : Box) (c : Command) : Type 0 where
-  pub time : lastTime (step s c .box .memory) ≡ c .now
-  pub same-groups : groups (step s c .box .memory) ≡ groups (s .memory)
-  pub new-salt : salt (step s c .box .memory) ≡ saltAfter (kindOf c) (s .memory) c
-  pub counts : (g : ℕ) → g < groups (s .memory) → count (step s c .box .memory) g ≡ countAfter (kindOf c) (s .memory) c g
-  pub held-group : held (step s c .box .memory) ≡ heldAfter (kindOf c) (s .memory) c
-  pub page : (g : ℕ) → g < groups (s .memory) → currentPage (step s c .box) g ≡ pageAfter (kindOf c) s c g
-  pub content : (a : ℕ) → block (step s c .box .disk) (physical a) ≡ contentAfter (kindOf c) (s .disk) c a
+  pub record After (s : Box) (c : Command) : Type 0 where
+    pub time : lastTime γ (step γ s c .box .memory) ≡ c .now
+    pub same-groups : groups γ (step γ s c .box .memory) ≡ groups γ (s .memory)
+    pub new-salt : salt (step γ s c .box .memory) ≡ saltAfter (kindOf c) (s .memory) c
+    pub counts : (g : ℕ) → g < groups γ (s .memory) → count (step γ s c .box .memory) g ≡ countAfter (kindOf c) (s .memory) c g
+    pub held-group : held γ (step γ s c .box .memory) ≡ heldAfter (kindOf c) (s .memory) c
+    pub page : (g : ℕ) → g < groups γ (s .memory) → currentPage γ (step γ s c .box) g ≡ pageAfter (kindOf c) s c g
+    pub content : (a : ℕ) → block γ (step γ s c .box .disk) (physical γ a) ≡ contentAfter (kindOf c) (s .disk) c a
 
-unfoldable pub AcceptedDoes : Type 0
-AcceptedDoes = (s : Box) (c : Command) → Accepted s c → After s c
+  unfoldable pub AcceptedDoes : Type 0
+  AcceptedDoes = (s : Box) (c : Command) → Accepted γ s c → After s c
 
--- "Does the new salt differ from the present one?": an accepted one leaves another salt
-unfoldable pub NewSaltDiffers : Type 0
-NewSaltDiffers = (s : Box) (c : Command) → Accepted s c → c .kind ≡ 9 → salt (step s c .box .memory) ≡ salt (s .memory) → ⊥
+  -- "Does the new salt differ from the present one?": an accepted one leaves another salt
+  unfoldable pub NewSaltDiffers : Type 0
+  NewSaltDiffers = (s : Box) (c : Command) → Accepted γ s c → c .kind ≡ 9 → salt (step γ s c .box .memory) ≡ salt (s .memory) → ⊥
 
--- document 02, Q-9, on the order of the stores: "the held page (in kinds 4 to 6 only another group's), the data"
-unfoldable pub HeldPageFirst : Type 0
-HeldPageFirst = (s : Box) (c : Command) (lock : ℕ) → (held (s .memory) ≡ none → ⊥) → (held (s .memory) ≡ groupOf (c .block) → ⊥)
-    → change (Write lock) s c .stores
-    ≡ store (pageBlock (held (s .memory))) (heldPage (s .memory)) ∷ store (physical (c .block)) (c .content) ∷ []
+  -- document 02, Q-9, on the order of the stores: "the held page (in kinds 4 to 6 only another group's), the data"
+  unfoldable pub HeldPageFirst : Type 0
+  HeldPageFirst = (s : Box) (c : Command) (lock : ℕ) → (held γ (s .memory) ≡ none → ⊥) → (held γ (s .memory) ≡ groupOf γ (c .block) → ⊥)
+      → change γ (Write lock) s c .stores
+      ≡ store (pageBlock γ (held γ (s .memory))) (heldPage γ (s .memory)) ∷ store (physical γ (c .block)) (c .content) ∷ []
 
--- ---- what kinds 3 to 6 answer serves the next update
+  -- ---- what kinds 3 to 6 answer serves the next update
 
--- the proof brings the current page of group g, and any update of that group gets yes to question 7 with it
-pub record Serves (t : Box) (g : ℕ) (proof : List ℕ) : Type 0 where
-  pub page : broughtPage proof ≡ currentPage t g
-  pub matches : (u : Update) → HasYes (question7 (Change u) (t .memory) g proof)
+  -- the proof brings the current page of group g, and any update of that group gets yes to question 7 with it
+  pub record Serves (t : Box) (g : ℕ) (proof : List ℕ) : Type 0 where
+    pub page : broughtPage γ proof ≡ currentPage γ t g
+    pub matches : (u : Update) → HasYes (question7 γ (Change u) (t .memory) g proof)
 
--- "its current page and tag"; "that page with its new tag": an update that brings them next matches, and its page is not forged
-pub record AnswerServes (s : Box) (c : Command) : Type 0 where
-  pub shown : kindOf c ≡ Page → Serves (step s c .box) (c .block) (step s c .answer)
-  pub changed-page : (u : Update) → kindOf c ≡ Change u → Serves (step s c .box) (groupOf (c .block)) (step s c .answer)
+  -- "its current page and tag"; "that page with its new tag": an update that brings them next matches, and its page is not forged
+  pub record AnswerServes (s : Box) (c : Command) : Type 0 where
+    pub shown : kindOf c ≡ Page → Serves (step γ s c .box) (c .block) (step γ s c .answer)
+    pub changed-page : (u : Update) → kindOf c ≡ Change u → Serves (step γ s c .box) (groupOf γ (c .block)) (step γ s c .answer)
 
-unfoldable pub AnswersServe : Type 0
-AnswersServe = (s : Box) (c : Command) → Accepted s c → AnswerServes s c
+  unfoldable pub AnswersServe : Type 0
+  AnswersServe = (s : Box) (c : Command) → Accepted γ s c → AnswerServes s c

@@ -6,6 +6,7 @@ use mathlib.Core.List.{List, _∷_, _++_}
 use Prim.Native.Nat.{ℕ, _≤_, _<_}
 use lib.ListN.{length}
 use Rattle.octets.specs.Part.{AreBytes, repeated}
+use Rattle.lockpage.specs.Geometry.{Geometry, base}
 use Rattle.lockpage.specs.Size.{pageSize}
 use Rattle.lockpage.specs.Page.{blankEntry, entryAt}
 use Rattle.addressing.specs.Map.{diskSize, dataBlocks, groupOf, placeOf, physical}
@@ -21,39 +22,17 @@ use Rattle.machine.specs.Step.{step}
 use Rattle.machine.specs.Format.{formatQuestions, format}
 use Rattle.machine.specs.Run.{Event, run}
 
-abbrev pub Accepted : Box → Command → Type 0
-Accepted s c = step s c .number ≡ 0
-
--- the command is refused, by question n at the latest
-abbrev pub RefusedBy : ℕ → Box → Command → Type 0
-RefusedBy n s c = (1 ≤ step s c .number) × (step s c .number ≤ n)
-
 -- ---- document 01's sizes
 
 -- "proof (page 512, tag 32) and a 544-byte answer buffer"; "salt, group in 8 bytes, count in 4 bytes, page: 556 bytes"
 pub record PapersSizes : Type 0 where
   pub tag : tagSize ≡ 32
-  pub proof : proofSize ≡ 544
-  pub answer : answerSize ≡ 544
-  pub message : (m : List ℕ) (g : ℕ) (page : List ℕ) → length m ≡ memorySize → length page ≡ pageSize
-      → length (tagMessage m g page) ≡ 556
+  pub proof : proofSize base ≡ 544
+  pub answer : answerSize base ≡ 544
+  pub message : (m : List ℕ) (g : ℕ) (page : List ℕ) → length m ≡ memorySize base → length page ≡ pageSize base
+      → length (tagMessage base m g page) ≡ 556
 
--- ---- demand 2: "A command passes if and only if each question put to it there has yes."
-
-pub record Passes (s : Box) (c : Command) : Type 0 where
-  pub passes : AllYes (questions s c) → Accepted s c
-  pub only : Accepted s c → AllYes (questions s c)
-
-unfoldable pub PassesIfAllYes : Type 0
-PassesIfAllYes = (s : Box) (c : Command) → Passes s c
-
--- "Is the kind 1 to 10?": question 3 has yes for these numbers and no other
-pub record OneToTen (c : Command) : Type 0 where
-  pub known : 1 ≤ c .kind → c .kind ≤ 10 → HasYes (question3 (kindOf c))
-  pub only : HasYes (question3 (kindOf c)) → (1 ≤ c .kind) × (c .kind ≤ 10)
-
-unfoldable pub KindsAreOneToTen : Type 0
-KindsAreOneToTen = (c : Command) → OneToTen c
+-- ---- questions and bytes
 
 -- "A no ends the command with that number": n is that of the first question in order which has no
 pub record IsFirstNo (n : ℕ) (qs : List Question) : Type 0 where
@@ -61,40 +40,6 @@ pub record IsFirstNo (n : ℕ) (qs : List Question) : Type 0 where
   pub later : List Question
   pub split : qs ≡ earlier ++ (Put n false ∷ later)
   pub before : AllYes earlier
-
-pub record Numbered (s : Box) (c : Command) : Type 0 where
-  pub first : (Accepted s c → ⊥) → IsFirstNo (step s c .number) (questions s c)
-  pub only : (n : ℕ) → IsFirstNo n (questions s c) → step s c .number ≡ n
-
-unfoldable pub NumberIsFirstNo : Type 0
-NumberIsFirstNo = (s : Box) (c : Command) → Numbered s c
-
--- ---- demand 1: "a refusal alters no byte of memory, disk or answer"
-
-pub record Unaltered (s : Box) (c : Command) : Type 0 where
-  pub box : step s c .box ≡ s
-  pub answer : step s c .answer ≡ c .answer
-
-unfoldable pub RefusalAltersNothing : Type 0
-RefusalAltersNothing = (s : Box) (c : Command) → (Accepted s c → ⊥) → Unaltered s c
-
--- ---- a box once valid stays valid: questions 1 and 2 have yes
-
-pub record ValidBox (s : Box) : Type 0 where
-  pub memory : valid (s .memory) ≡ true
-  pub disk : length (s .disk) ≡ diskSize (groups (s .memory))
-
-unfoldable pub AcceptedLeavesValid : Type 0
-AcceptedLeavesValid = (s : Box) (c : Command) → Accepted s c → ValidBox (step s c .box)
-
-unfoldable pub StaysValid : Type 0
-StaysValid = (s : Box) (es : List Event) → ValidBox s → ValidBox (run s es)
-
--- "where question 1 or 2 says no to that start, every command is refused", so that the box stays as it is
-unfoldable pub InvalidRefuses : Type 0
-InvalidRefuses = (s : Box) (c : Command) → (ValidBox s → ⊥) → RefusedBy 2 s c × (step s c .box ≡ s)
-
--- ---- bytes stay bytes, and a buffer keeps its length
 
 pub record ByteBox (s : Box) : Type 0 where
   pub memory : AreBytes (s .memory)
@@ -105,35 +50,95 @@ pub record ByteCommand (c : Command) : Type 0 where
   pub proof : AreBytes (c .proof)
   pub answer : AreBytes (c .answer)
 
-pub record Stored (s : Box) (c : Command) : Type 0 where
-  pub box : ByteBox (step s c .box)
-  pub answer : AreBytes (step s c .answer)
+-- γ is the box's geometry; the numbers quoted are those at base
+module _ (γ : Geometry) where
+  abbrev pub Accepted : Box → Command → Type 0
+  Accepted s c = step γ s c .number ≡ 0
 
-unfoldable pub StepKeepsBytes : Type 0
-StepKeepsBytes = (s : Box) (c : Command) → ByteBox s → ByteCommand c → Stored s c
+  -- the command is refused, by question n at the latest
+  abbrev pub RefusedBy : ℕ → Box → Command → Type 0
+  RefusedBy n s c = (1 ≤ step γ s c .number) × (step γ s c .number ≤ n)
 
-pub record SameLengths (s : Box) (c : Command) : Type 0 where
-  pub memory : length (step s c .box .memory) ≡ length (s .memory)
-  pub disk : length (step s c .box .disk) ≡ length (s .disk)
-  pub answer : length (step s c .answer) ≡ length (c .answer)
+  -- ---- demand 2: "A command passes if and only if each question put to it there has yes."
 
-unfoldable pub StepKeepsLengths : Type 0
-StepKeepsLengths = (s : Box) (c : Command) → SameLengths s c
+  pub record Passes (s : Box) (c : Command) : Type 0 where
+    pub passes : AllYes (questions γ s c) → Accepted s c
+    pub only : Accepted s c → AllYes (questions γ s c)
 
--- ---- formatting
+  unfoldable pub PassesIfAllYes : Type 0
+  PassesIfAllYes = (s : Box) (c : Command) → Passes s c
 
-pub record Formats (s : Box) (g : ℕ) (salt : List ℕ) : Type 0 where
-  -- its number is that of the first no, and a refusal alters nothing
-  pub number : format s g salt .number ≡ firstNo (formatQuestions s g salt)
-  pub refused : (format s g salt .number ≡ 0 → ⊥) → format s g salt .box ≡ s
-  -- it gives a valid box with the salt and G, counts and last time 0 and none held; each block has the blank entry, with which it is
-  -- free; and it "touches no data block"
-  pub valid : format s g salt .number ≡ 0 → ValidBox (format s g salt .box)
-  pub reads : format s g salt .number ≡ 0 → Reads (format s g salt .box .memory) salt (λ k. 0) 0 g none (repeated pageSize 0)
-  pub blank : format s g salt .number ≡ 0 → (a : ℕ) → a < dataBlocks g
-      → entryAt (currentPage (format s g salt .box) (groupOf a)) (placeOf a) ≡ blankEntry
-  pub untouched : (a : ℕ) → block (format s g salt .box .disk) (physical a) ≡ block (s .disk) (physical a)
-  pub bytes : ByteBox s → AreBytes salt → ByteBox (format s g salt .box)
+  -- "Is the kind 1 to 10?": question 3 has yes for these numbers and no other
+  pub record OneToTen (c : Command) : Type 0 where
+    pub known : 1 ≤ c .kind → c .kind ≤ 10 → HasYes (question3 γ (kindOf c))
+    pub only : HasYes (question3 γ (kindOf c)) → (1 ≤ c .kind) × (c .kind ≤ 10)
 
-unfoldable pub FormattingFormats : Type 0
-FormattingFormats = (s : Box) (g : ℕ) (salt : List ℕ) → Formats s g salt
+  unfoldable pub KindsAreOneToTen : Type 0
+  KindsAreOneToTen = (c : Command) → OneToTen c
+
+  pub record Numbered (s : Box) (c : Command) : Type 0 where
+    pub first : (Accepted s c → ⊥) → IsFirstNo (step γ s c .number) (questions γ s c)
+    pub only : (n : ℕ) → IsFirstNo n (questions γ s c) → step γ s c .number ≡ n
+
+  unfoldable pub NumberIsFirstNo : Type 0
+  NumberIsFirstNo = (s : Box) (c : Command) → Numbered s c
+
+  -- ---- demand 1: "a refusal alters no byte of memory, disk or answer"
+
+  pub record Unaltered (s : Box) (c : Command) : Type 0 where
+    pub box : step γ s c .box ≡ s
+    pub answer : step γ s c .answer ≡ c .answer
+
+  unfoldable pub RefusalAltersNothing : Type 0
+  RefusalAltersNothing = (s : Box) (c : Command) → (Accepted s c → ⊥) → Unaltered s c
+
+  -- ---- a box once valid stays valid: questions 1 and 2 have yes
+
+  pub record ValidBox (s : Box) : Type 0 where
+    pub memory : valid γ (s .memory) ≡ true
+    pub disk : length (s .disk) ≡ diskSize γ (groups γ (s .memory))
+
+  unfoldable pub AcceptedLeavesValid : Type 0
+  AcceptedLeavesValid = (s : Box) (c : Command) → Accepted s c → ValidBox (step γ s c .box)
+
+  unfoldable pub StaysValid : Type 0
+  StaysValid = (s : Box) (es : List Event) → ValidBox s → ValidBox (run γ s es)
+
+  -- "where question 1 or 2 says no to that start, every command is refused", so that the box stays as it is
+  unfoldable pub InvalidRefuses : Type 0
+  InvalidRefuses = (s : Box) (c : Command) → (ValidBox s → ⊥) → RefusedBy 2 s c × (step γ s c .box ≡ s)
+
+  -- ---- bytes stay bytes, and a buffer keeps its length
+
+  pub record Stored (s : Box) (c : Command) : Type 0 where
+    pub box : ByteBox (step γ s c .box)
+    pub answer : AreBytes (step γ s c .answer)
+
+  unfoldable pub StepKeepsBytes : Type 0
+  StepKeepsBytes = (s : Box) (c : Command) → ByteBox s → ByteCommand c → Stored s c
+
+  pub record SameLengths (s : Box) (c : Command) : Type 0 where
+    pub memory : length (step γ s c .box .memory) ≡ length (s .memory)
+    pub disk : length (step γ s c .box .disk) ≡ length (s .disk)
+    pub answer : length (step γ s c .answer) ≡ length (c .answer)
+
+  unfoldable pub StepKeepsLengths : Type 0
+  StepKeepsLengths = (s : Box) (c : Command) → SameLengths s c
+
+  -- ---- formatting
+
+  pub record Formats (s : Box) (g : ℕ) (salt : List ℕ) : Type 0 where
+    -- its number is that of the first no, and a refusal alters nothing
+    pub number : format γ s g salt .number ≡ firstNo (formatQuestions γ s g salt)
+    pub refused : (format γ s g salt .number ≡ 0 → ⊥) → format γ s g salt .box ≡ s
+    -- it gives a valid box with the salt and G, counts and last time 0 and none held; each block has the blank entry, with which it is
+    -- free; and it "touches no data block"
+    pub valid : format γ s g salt .number ≡ 0 → ValidBox (format γ s g salt .box)
+    pub reads : format γ s g salt .number ≡ 0 → Reads γ (format γ s g salt .box .memory) salt (λ k. 0) 0 g none (repeated (pageSize γ) 0)
+    pub blank : format γ s g salt .number ≡ 0 → (a : ℕ) → a < dataBlocks γ g
+        → entryAt (currentPage γ (format γ s g salt .box) (groupOf γ a)) (placeOf γ a) ≡ blankEntry
+    pub untouched : (a : ℕ) → block γ (format γ s g salt .box .disk) (physical γ a) ≡ block γ (s .disk) (physical γ a)
+    pub bytes : ByteBox s → AreBytes salt → ByteBox (format γ s g salt .box)
+
+  unfoldable pub FormattingFormats : Type 0
+  FormattingFormats = (s : Box) (g : ℕ) (salt : List ℕ) → Formats s g salt

@@ -3,6 +3,7 @@ use mathlib.Core.List.{List, [], _∷_}
 use Prim.Native.Nat.{ℕ, _+_}
 use lib.ListN.{getD}
 use Rattle.octets.specs.Part.{part}
+use Rattle.lockpage.specs.Geometry.{Geometry}
 use Rattle.lockpage.specs.Size.{pageSize}
 use Rattle.lockpage.specs.declared.Entry.{Entry as PageEntry}
 use Rattle.lockpage.specs.declared.Update.the-variants.{Write, Unfreeze, Increment}
@@ -73,20 +74,22 @@ kindOf c = kindNumbered (c .kind) (c .value)
 abbrev pub tagSize : ℕ
 tagSize = digestSize
 
--- "proof (page 512, tag 32)"
-abbrev pub proofSize : ℕ
-proofSize = pageSize + tagSize
+-- γ is the box's geometry; the numbers quoted are those at base
+module _ (γ : Geometry) where
+  -- "proof (page 512, tag 32)"
+  abbrev pub proofSize : ℕ
+  proofSize = pageSize γ + tagSize
 
-unfoldable pub broughtPage : List ℕ → List ℕ
-broughtPage proof = part proof 0 pageSize
+  unfoldable pub broughtPage : List ℕ → List ℕ
+  broughtPage proof = part proof 0 (pageSize γ)
 
-unfoldable pub broughtTag : List ℕ → List ℕ
-broughtTag proof = part proof pageSize tagSize
+  unfoldable pub broughtTag : List ℕ → List ℕ
+  broughtTag proof = part proof (pageSize γ) tagSize
 
--- the block's entry on the page brought
-abbrev pub broughtEntry : Command → PageEntry
-broughtEntry c = entryAt (broughtPage (c .proof)) (placeOf (c .block))
+  -- the block's entry on the page brought
+  abbrev pub broughtEntry : Command → PageEntry
+  broughtEntry c = entryAt (broughtPage (c .proof)) (placeOf γ (c .block))
 
--- "a 544-byte answer buffer": a page and a tag
-abbrev pub answerSize : ℕ
-answerSize = pageSize + tagSize
+  -- "a 544-byte answer buffer": a page and a tag
+  abbrev pub answerSize : ℕ
+  answerSize = pageSize γ + tagSize

@@ -5,6 +5,7 @@ use mathlib.Core.List.{[], _∷_}
 use Prim.Native.Nat.{ℕ}
 use lib.IntN.{pos}
 use Rattle.octets.specs.Number.{bytes}
+use Rattle.lockpage.specs.Geometry.{base}
 use Rattle.lockpage.specs.Size.{wordSize}
 use Rattle.lockpage.specs.declared.Entry.{Entry}
 use Rattle.lockpage.specs.declared.State.the-variants.{Free, Counting}
@@ -47,10 +48,10 @@ locking c lock =
 
 pub record EdgeValues : Type 0 where
   -- "63 lies at 63; 64 at 65; 1,023 at 1,038; the page of group 15 at 1,039."
-  pub block-63 : physical 63 ≡ 63
-  pub block-64 : physical 64 ≡ 65
-  pub block-1023 : physical 1023 ≡ 1038
-  pub page-15 : pageBlock 15 ≡ 1039
+  pub block-63 : physical base 63 ≡ 63
+  pub block-64 : physical base 64 ≡ 65
+  pub block-1023 : physical base 1023 ≡ 1038
+  pub page-15 : pageBlock base 15 ≡ 1039
   -- "F4 01 00 00 D0 07 00 00"
   pub written-bytes : entryBytes written ≡ 244 ∷ 1 ∷ 0 ∷ 0 ∷ 208 ∷ 7 ∷ 0 ∷ 0 ∷ []
   -- "A4 06 00 00 D1 07 00 00"
@@ -68,5 +69,5 @@ pub record EdgeValues : Type 0 where
   -- "Lock 0 unfrozen at 1200 is free at 1200."
   pub unlocked-state : state 1200 unlocked ≡ Free
   -- "Lock 2,147,483,647 passes, 2,147,483,648 gets 10": wherever a write with lock 0 passes
-  pub longest-lock : (s : Box) (c : Command) → c .kind ≡ 4 → Accepted s (locking c 0) → Accepted s (locking c 2147483647)
-  pub longer-lock : (s : Box) (c : Command) → c .kind ≡ 4 → Accepted s (locking c 0) → step s (locking c 2147483648) .number ≡ 10
+  pub longest-lock : (s : Box) (c : Command) → c .kind ≡ 4 → Accepted base s (locking c 0) → Accepted base s (locking c 2147483647)
+  pub longer-lock : (s : Box) (c : Command) → c .kind ≡ 4 → Accepted base s (locking c 0) → step base s (locking c 2147483648) .number ≡ 10

@@ -5,6 +5,7 @@ use mathlib.Core.Path.{_≡_}
 use mathlib.Core.List.{List, [], _∷_}
 use Prim.Native.Nat.{ℕ}
 use Rattle.octets.specs.Part.{AreBytes, repeated}
+use Rattle.lockpage.specs.Geometry.{base}
 use Rattle.lockpage.specs.Size.{blockSize}
 use Rattle.lockpage.specs.Entry.{entry}
 use Rattle.addressing.specs.Map.{diskSize, groupOf, physical}
@@ -28,34 +29,34 @@ updating s kind now value content =
       now = now;
       value = value;
       content = content;
-      proof = tagged (s .memory) (groupOf 0) (currentPage s (groupOf 0));
-      answer = repeated answerSize 0;
+      proof = tagged base (s .memory) (groupOf base 0) (currentPage base s (groupOf base 0));
+      answer = repeated (answerSize base) 0;
     }
 
 -- a command that names and brings nothing
 abbrev pub plain : ℕ → ℕ → Command
 plain kind now =
-    record { kind = kind; block = 0; now = now; value = 0; content = []; proof = []; answer = repeated answerSize 0 }
+    record { kind = kind; block = 0; now = now; value = 0; content = []; proof = []; answer = repeated (answerSize base) 0 }
 
 -- ---- the start
 
 -- a formatted box of one group, its salt and data zeros
 unfoldable pub formattedBox : Box
-formattedBox = format (boxOf (repeated memorySize 0) (repeated (diskSize 1) 0)) 1 (repeated saltSize 0) .box
+formattedBox = format base (boxOf (repeated (memorySize base) 0) (repeated (diskSize base 1) 0)) 1 (repeated saltSize 0) .box
 
 -- lock 500 is written to block 0 at 1000
 abbrev pub writing : Command
-writing = updating formattedBox 4 1000 500 (repeated blockSize 1)
+writing = updating formattedBox 4 1000 500 (repeated (blockSize base) 1)
 
 unfoldable pub written : Box
-written = step formattedBox writing .box
+written = step base formattedBox writing .box
 
 -- and the page synced
 abbrev pub syncing : Command
 syncing = plain 7 1000
 
 unfoldable pub start : Box
-start = step written syncing .box
+start = step base written syncing .box
 
 -- ---- the run
 
@@ -64,25 +65,25 @@ abbrev pub unfreezing : Command
 unfreezing = updating start 5 1200 0 []
 
 unfoldable pub unfrozen : Box
-unfrozen = step start unfreezing .box
+unfrozen = step base start unfreezing .box
 
 -- a restart at 1300 loses that
 abbrev pub restarting : Command
 restarting = plain 8 1300
 
 unfoldable pub restarted : Box
-restarted = step unfrozen restarting .box
+restarted = step base unfrozen restarting .box
 
 -- unfrozen at 1400
 abbrev pub unfreezingAgain : Command
 unfreezingAgain = updating restarted 5 1400 0 []
 
 unfoldable pub counting : Box
-counting = step restarted unfreezingAgain .box
+counting = step base restarted unfreezingAgain .box
 
 -- and overwritten at 1900, when the lock has passed
 abbrev pub overwriting : Command
-overwriting = updating counting 4 1900 0 (repeated blockSize 2)
+overwriting = updating counting 4 1900 0 (repeated (blockSize base) 2)
 
 abbrev pub events : List Event
 events = Given unfreezing ∷ Given restarting ∷ Given unfreezingAgain ∷ Given overwriting ∷ []
@@ -90,18 +91,18 @@ events = Given unfreezing ∷ Given restarting ∷ Given unfreezingAgain ∷ Giv
 -- ---- the claim
 
 abbrev pub IsAccepted : Box → Event → Type 0
-IsAccepted s (Given c) = Accepted s c
+IsAccepted s (Given c) = Accepted base s c
 
 pub record PremisesMet : Type 0 where
   -- the whole run, from the formatted box on
   pub begins-bytes : AreBytes (formattedBox .disk)
-  pub begins-none-held : held (formattedBox .memory) ≡ none
-  pub all-unforged : Throughout Unforged formattedBox (Given writing ∷ Given syncing ∷ events)
-  pub all-accepted : Throughout IsAccepted formattedBox (Given writing ∷ Given syncing ∷ events)
+  pub begins-none-held : held base (formattedBox .memory) ≡ none
+  pub all-unforged : Throughout base (Unforged base) formattedBox (Given writing ∷ Given syncing ∷ events)
+  pub all-accepted : Throughout base IsAccepted formattedBox (Given writing ∷ Given syncing ∷ events)
   -- and from the start on: T is 1000, block 0 is frozen under lock 500, and the last command overwrites it
   pub bytes : AreBytes (start .disk)
-  pub none-held : held (start .memory) ≡ none
-  pub unforged : Throughout Unforged start events
-  pub time : lastTime (start .memory) ≡ 1000
-  pub frozen : startEntry start 0 ≡ entry 500 2000
-  pub overwritten : block (run start events .disk) (physical 0) ≡ repeated blockSize 2
+  pub none-held : held base (start .memory) ≡ none
+  pub unforged : Throughout base (Unforged base) start events
+  pub time : lastTime base (start .memory) ≡ 1000
+  pub frozen : startEntry base start 0 ≡ entry 500 2000
+  pub overwritten : block base (run base start events .disk) (physical base 0) ≡ repeated (blockSize base) 2

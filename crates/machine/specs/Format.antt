@@ -4,9 +4,10 @@ use mathlib.Core.List.{List, [], _∷_, _++_}
 use Prim.Native.Nat.{ℕ, zero, suc}
 use lib.ListN.{length}
 use lib.Dec.{eqb, leb}
+use Rattle.lockpage.specs.Geometry.{Geometry}
 use Rattle.lockpage.specs.Page.{blankPage}
 use Rattle.addressing.specs.Map.{diskSize, pageBlock}
-use Rattle.memory.specs.Layout.{memorySize, saltSize, mostGroups}
+use Rattle.memory.specs.Layout.{memorySize, saltSize}
 use Rattle.memory.specs.Memory.{formatted}
 use Rattle.machine.specs.Command.{Box, boxOf}
 use Rattle.machine.specs.Question.{Question, Put, firstNo}
@@ -20,23 +21,25 @@ pub record Formatting : Type 0 where
 abbrev pub formattingOf : ℕ → List ℕ → List ℕ → Formatting
 formattingOf number memory disk = record { number = number; box = boxOf memory disk }
 
--- it "refuses by questions 1 (G, and 616 bytes of memory to fill), 2 and 6 (32 bytes of salt)"
-unfoldable pub formatQuestions : Box → ℕ → List ℕ → List Question
-formatQuestions s g salt =
-    Put 1 (leb 1 g && (leb g mostGroups && eqb (length (s .memory)) memorySize))
-    ∷ Put 2 (eqb (length (s .disk)) (diskSize g))
-    ∷ Put 6 (eqb (length salt) saltSize)
-    ∷ []
+-- γ is the box's geometry; the numbers quoted are those at base
+module _ (γ : Geometry) where
+  -- it "refuses by questions 1 (G, and 616 bytes of memory to fill), 2 and 6 (32 bytes of salt)"
+  unfoldable pub formatQuestions : Box → ℕ → List ℕ → List Question
+  formatQuestions s g salt =
+      Put 1 (leb 1 g && (leb g (γ .mostGroups) && eqb (length (s .memory)) (memorySize γ)))
+      ∷ Put 2 (eqb (length (s .disk)) (diskSize γ g))
+      ∷ Put 6 (eqb (length salt) saltSize)
+      ∷ []
 
--- it "sets every entry to 00 00 00 00 01 00 00 00": the pages of the groups below g, in their order
-unfoldable pub blankPages : ℕ → List Store
-blankPages zero = []
-blankPages (suc g) = blankPages g ++ (store (pageBlock g) blankPage ∷ [])
+  -- it "sets every entry to 00 00 00 00 01 00 00 00": the pages of the groups below g, in their order
+  unfoldable pub blankPages : ℕ → List Store
+  blankPages zero = []
+  blankPages (suc g) = blankPages g ++ (store (pageBlock γ g) (blankPage γ) ∷ [])
 
-unfoldable pub format : Box → ℕ → List ℕ → Formatting
-format s g salt =
-    let n = firstNo (formatQuestions s g salt) in
-    elim (eqb n 0) [
-      | true ↦ formattingOf 0 (formatted g salt) (stored (s .disk) (blankPages g))
-      | false ↦ record { number = n; box = s }
-    ]
+  unfoldable pub format : Box → ℕ → List ℕ → Formatting
+  format s g salt =
+      let n = firstNo (formatQuestions s g salt) in
+      elim (eqb n 0) [
+        | true ↦ formattingOf 0 (formatted γ g salt) (stored γ (s .disk) (blankPages g))
+        | false ↦ record { number = n; box = s }
+      ]

@@ -3,6 +3,7 @@ use mathlib.Core.Path.{_≡_}
 use mathlib.Core.List.{List, _++_, _∷_}
 use Prim.Native.Nat.{ℕ, _+_, _<_}
 use Rattle.octets.specs.Part.{AreBytes}
+use Rattle.lockpage.specs.Geometry.{Geometry}
 use Rattle.lockpage.specs.declared.Entry.{Entry}
 use Rattle.lockpage.specs.Entry.{timeOfWrite, flag, frozen, unfrozen}
 use Rattle.lockpage.specs.Page.{entryAt}
@@ -16,73 +17,75 @@ use Rattle.machine.specs.Step.{step, padded}
 use Rattle.machine.specs.Run.{Event, Given, run, Throughout}
 use Rattle.machine.specs.Claims.{Accepted}
 
--- ---- the premises
+-- γ is the box's geometry; the numbers quoted are those at base
+module _ (γ : Geometry) where
+  -- ---- the premises
 
--- "A page is forged if a kind 4, 5 or 6 gets yes to question 7 and the page brought isn't the current page of the block's group in the
--- memory and disk which that command gets." Question 7 is put to no other kind
-abbrev pub Unforged : Box → Event → Type 0
-Unforged s (Given c) = GetsYes 7 (questions s c) → broughtPage (c .proof) ≡ currentPage s (groupOf (c .block))
+  -- "A page is forged if a kind 4, 5 or 6 gets yes to question 7 and the page brought isn't the current page of the block's group in the
+  -- memory and disk which that command gets." Question 7 is put to no other kind
+  abbrev pub Unforged : Box → Event → Type 0
+  Unforged s (Given c) = GetsYes 7 (questions γ s c) → broughtPage γ (c .proof) ≡ currentPage γ s (groupOf γ (c .block))
 
--- "A block is unfrozen in a run if the list has an accepted kind 5 on it."
-abbrev pub NotUnfrozen : ℕ → Box → Event → Type 0
-NotUnfrozen b s (Given c) = Accepted s c → c .kind ≡ 5 → c .block ≡ b → ⊥
+  -- "A block is unfrozen in a run if the list has an accepted kind 5 on it."
+  abbrev pub NotUnfrozen : ℕ → Box → Event → Type 0
+  NotUnfrozen b s (Given c) = Accepted γ s c → c .kind ≡ 5 → c .block ≡ b → ⊥
 
--- ---- "What a block was at the start is read off the start's disk."
+  -- ---- "What a block was at the start is read off the start's disk."
 
--- "Its content is the 512 bytes at its physical block"
-abbrev pub startContent : Box → ℕ → List ℕ
-startContent s b = block (s .disk) (physical b)
+  -- "Its content is the 512 bytes at its physical block"
+  abbrev pub startContent : Box → ℕ → List ℕ
+  startContent s b = block γ (s .disk) (physical γ b)
 
-abbrev pub startEntry : Box → ℕ → Entry
-startEntry s b = entryAt (block (s .disk) (pageBlock (groupOf b))) (placeOf b)
+  abbrev pub startEntry : Box → ℕ → Entry
+  startEntry s b = entryAt (block γ (s .disk) (pageBlock γ (groupOf γ b))) (placeOf γ b)
 
--- ---- what is shown
+  -- ---- what is shown
 
--- "While the block is protected, an accepted kind 1 on it answers that content, and an accepted kind 2 an entry whose stamp div 2 is
--- that time of write." An entry stands at the start of its answer
-pub record CommandShows (b : ℕ) (content : List ℕ) (time : ℕ) (during : ℕ → Type 0) (s : Box) (c : Command) : Type 0 where
-  pub read : Accepted s c → c .kind ≡ 1 → c .block ≡ b → during (c .now) → step s c .answer ≡ padded content
-  pub entry : Accepted s c → c .kind ≡ 2 → c .block ≡ b → during (c .now) → timeOfWrite (entryAt (step s c .answer) 0) ≡ time
+  -- "While the block is protected, an accepted kind 1 on it answers that content, and an accepted kind 2 an entry whose stamp div 2 is
+  -- that time of write." An entry stands at the start of its answer
+  pub record CommandShows (b : ℕ) (content : List ℕ) (time : ℕ) (during : ℕ → Type 0) (s : Box) (c : Command) : Type 0 where
+    pub read : Accepted γ s c → c .kind ≡ 1 → c .block ≡ b → during (c .now) → step γ s c .answer ≡ padded γ content
+    pub entry : Accepted γ s c → c .kind ≡ 2 → c .block ≡ b → during (c .now) → timeOfWrite (entryAt (step γ s c .answer) 0) ≡ time
 
-abbrev pub Shows : ℕ → List ℕ → ℕ → (ℕ → Type 0) → Box → Event → Type 0
-Shows b content time during s (Given c) = CommandShows b content time during s c
+  abbrev pub Shows : ℕ → List ℕ → ℕ → (ℕ → Type 0) → Box → Event → Type 0
+  Shows b content time during s (Given c) = CommandShows b content time during s c
 
--- ---- the claim
+  -- ---- the claim
 
--- block b is protected at time t; T is the last time at the start. "A command is timed by its now; T + L is a plain sum"
-pub data Protected (s : Box) (b : ℕ) (xs ys : List Event) (t : ℕ) : Type 0 where
-  -- "With f = 0 and word L in its entry it is frozen under lock L": before T + L
-  FrozenUnder : flag (startEntry s b .stamp) ≡ frozen → t < lastTime (s .memory) + startEntry s b .word → Protected s b xs ys t
-  -- "with f = 1 and word E, E above T, it is counting down to E": before E
-  CountingTo : flag (startEntry s b .stamp) ≡ unfrozen → lastTime (s .memory) < startEntry s b .word → t < startEntry s b .word
-      → Protected s b xs ys t
-  -- "one frozen and unfrozen in neither run, to the end"
-  NeverUnfrozen : flag (startEntry s b .stamp) ≡ frozen → Throughout (NotUnfrozen b) s xs → Throughout (NotUnfrozen b) s ys
-      → Protected s b xs ys t
+  -- block b is protected at time t; T is the last time at the start. "A command is timed by its now; T + L is a plain sum"
+  pub data Protected (s : Box) (b : ℕ) (xs ys : List Event) (t : ℕ) : Type 0 where
+    -- "With f = 0 and word L in its entry it is frozen under lock L": before T + L
+    FrozenUnder : flag (startEntry s b .stamp) ≡ frozen → t < lastTime γ (s .memory) + startEntry s b .word → Protected s b xs ys t
+    -- "with f = 1 and word E, E above T, it is counting down to E": before E
+    CountingTo : flag (startEntry s b .stamp) ≡ unfrozen → lastTime γ (s .memory) < startEntry s b .word → t < startEntry s b .word
+        → Protected s b xs ys t
+    -- "one frozen and unfrozen in neither run, to the end"
+    NeverUnfrozen : flag (startEntry s b .stamp) ≡ frozen → Throughout γ (NotUnfrozen b) s xs → Throughout γ (NotUnfrozen b) s ys
+        → Protected s b xs ys t
 
--- the run es from s shows block b, where it is protected, as it was at the start
-abbrev pub ShowsStart : Box → ℕ → List Event → List Event → List Event → Type 0
-ShowsStart s b xs ys es = Throughout (Shows b (startContent s b) (timeOfWrite (startEntry s b)) (Protected s b xs ys)) s es
+  -- the run es from s shows block b, where it is protected, as it was at the start
+  abbrev pub ShowsStart : Box → ℕ → List Event → List Event → List Event → Type 0
+  ShowsStart s b xs ys es = Throughout γ (Shows b (startContent s b) (timeOfWrite (startEntry s b)) (Protected s b xs ys)) s es
 
--- "Both start from the same memory and disk, held group 255", and no page in either run is forged; a disk is bytes. Both runs show
--- a protected block alike: each shows it as it was at the start
-unfoldable pub Demand3 : Type 0
-Demand3 = (s : Box) (b : ℕ) (xs ys : List Event) → AreBytes (s .disk) → held (s .memory) ≡ none
-    → Throughout Unforged s xs → Throughout Unforged s ys → ShowsStart s b xs ys xs × ShowsStart s b xs ys ys
+  -- "Both start from the same memory and disk, held group 255", and no page in either run is forged; a disk is bytes. Both runs show
+  -- a protected block alike: each shows it as it was at the start
+  unfoldable pub Demand3 : Type 0
+  Demand3 = (s : Box) (b : ℕ) (xs ys : List Event) → AreBytes (s .disk) → held γ (s .memory) ≡ none
+      → Throughout γ Unforged s xs → Throughout γ Unforged s ys → ShowsStart s b xs ys xs × ShowsStart s b xs ys ys
 
--- ---- so two accepted reads, one in each run, have the same answer
+  -- ---- so two accepted reads, one in each run, have the same answer
 
--- an accepted read of block b, among the events of a run from s
-pub record ReadIn (s : Box) (b : ℕ) (es : List Event) (c : Command) : Type 0 where
-  pub earlier : List Event
-  pub later : List Event
-  pub split : es ≡ earlier ++ (Given c ∷ later)
-  pub kind : c .kind ≡ 1
-  pub block : c .block ≡ b
-  pub accepted : Accepted (run s earlier) c
+  -- an accepted read of block b, among the events of a run from s
+  pub record ReadIn (s : Box) (b : ℕ) (es : List Event) (c : Command) : Type 0 where
+    pub earlier : List Event
+    pub later : List Event
+    pub split : es ≡ earlier ++ (Given c ∷ later)
+    pub kind : c .kind ≡ 1
+    pub block : c .block ≡ b
+    pub accepted : Accepted γ (run γ s earlier) c
 
-unfoldable pub ReadsAlike : Type 0
-ReadsAlike = (s : Box) (b : ℕ) (xs ys : List Event) → AreBytes (s .disk) → held (s .memory) ≡ none
-    → Throughout Unforged s xs → Throughout Unforged s ys
-    → (c d : Command) (x : ReadIn s b xs c) (y : ReadIn s b ys d) → Protected s b xs ys (c .now) → Protected s b xs ys (d .now)
-    → step (run s (x .earlier)) c .answer ≡ step (run s (y .earlier)) d .answer
+  unfoldable pub ReadsAlike : Type 0
+  ReadsAlike = (s : Box) (b : ℕ) (xs ys : List Event) → AreBytes (s .disk) → held γ (s .memory) ≡ none
+      → Throughout γ Unforged s xs → Throughout γ Unforged s ys
+      → (c d : Command) (x : ReadIn s b xs c) (y : ReadIn s b ys d) → Protected s b xs ys (c .now) → Protected s b xs ys (d .now)
+      → step γ (run γ s (x .earlier)) c .answer ≡ step γ (run γ s (y .earlier)) d .answer

@@ -1,6 +1,7 @@
 -- A run: a list of events, each with the box that the one before left, after document 01, "The two runs". Assumes nothing: these are
 -- definitions.
 use mathlib.Core.List.{List, [], _∷_}
+use Rattle.lockpage.specs.Geometry.{Geometry}
 use Rattle.machine.specs.Command.{Box, Command}
 use Rattle.machine.specs.Step.{step}
 
@@ -8,15 +9,17 @@ use Rattle.machine.specs.Step.{step}
 pub data Event : Type 0 where
   Given : Command → Event
 
--- "Each command gets the memory and disk that the one before left, refused or not"
-abbrev pub after : Box → Event → Box
-after s (Given c) = step s c .box
+-- γ is the box's geometry
+module _ (γ : Geometry) where
+  -- "Each command gets the memory and disk that the one before left, refused or not"
+  abbrev pub after : Box → Event → Box
+  after s (Given c) = step γ s c .box
 
-abbrev pub run : Box → List Event → Box
-run s [] = s
-run s (e ∷ es) = run (after s e) es
+  abbrev pub run : Box → List Event → Box
+  run s [] = s
+  run s (e ∷ es) = run (after s e) es
 
--- P holds of each event of a run and of the box that it gets
-abbrev pub Throughout : (Box → Event → Type 0) → Box → List Event → Type 0
-Throughout P s [] = Unit
-Throughout P s (e ∷ es) = P s e × Throughout P (after s e) es
+  -- P holds of each event of a run and of the box that it gets
+  abbrev pub Throughout : (Box → Event → Type 0) → Box → List Event → Type 0
+  Throughout P s [] = Unit
+  Throughout P s (e ∷ es) = P s e × Throughout P (after s e) es

@@ -4,9 +4,10 @@ use mathlib.Core.Path.{_≡_}
 use mathlib.Core.List.{List}
 use Prim.Native.Nat.{ℕ, _<_}
 use Rattle.octets.specs.Part.{AreBytes}
+use Rattle.lockpage.specs.Geometry.{Geometry}
 use Rattle.lockpage.specs.declared.Update.{Update}
 use Rattle.lockpage.specs.Entry.{flag, unfrozen}
-use Rattle.addressing.specs.Map.{groupOf, physical, pageBlock}
+use Rattle.addressing.specs.Map.{groupData, groupOf, physical, pageBlock}
 use Rattle.blake3.specs.Blake3.{digest}
 use Rattle.machine.specs.declared.Kind.the-variants.{Change}
 use Rattle.machine.specs.Command.{Box, Command, kindOf, broughtPage, broughtEntry}
@@ -16,55 +17,57 @@ use Rattle.machine.specs.Run.{Event, Given, run, Throughout}
 use Rattle.machine.specs.Claims.{Accepted, RefusedBy}
 use Rattle.machine.specs.Protection.{Unforged}
 
--- the command is no accepted new salt
-abbrev pub SaltStays : Box → Event → Type 0
-SaltStays s (Given c) = Accepted s c → c .kind ≡ 9 → ⊥
-
 -- the tags of these two messages differ if the messages do. No digest has this of all messages: it is a premise about the two at hand
 abbrev pub Distinguished : List ℕ → List ℕ → Type 0
 Distinguished x y = digest x ≡ digest y → x ≡ y
 
--- the messages of a page of group g under the salt and count of one memory and of another
-abbrev pub TagsDiffer : List ℕ → List ℕ → ℕ → List ℕ → Type 0
-TagsDiffer m n g page = Distinguished (tagMessage m g page) (tagMessage n g page)
+-- γ is the box's geometry; the numbers quoted are those at base
+module _ (γ : Geometry) where
+  -- the command is no accepted new salt
+  abbrev pub SaltStays : Box → Event → Type 0
+  SaltStays s (Given c) = Accepted γ s c → c .kind ≡ 9 → ⊥
 
--- "Reading f = 1 as free without the expiry": a write before the expiry is refused
-unfoldable pub NotFreeBeforeExpiry : Type 0
-NotFreeBeforeExpiry = (s : Box) (c : Command) → c .kind ≡ 4 → flag (broughtEntry c .stamp) ≡ unfrozen → c .now < broughtEntry c .word
-    → RefusedBy 9 s c
+  -- the messages of a page of group g under the salt and count of one memory and of another
+  abbrev pub TagsDiffer : List ℕ → List ℕ → ℕ → List ℕ → Type 0
+  TagsDiffer m n g page = Distinguished (tagMessage γ m g page) (tagMessage γ n g page)
 
--- "Leaving the count out of the tag, so an old page still matches": after an accepted update c of a group, and any events but a new
--- salt, an update d of that group that brings the page and tag of c again is refused
-unfoldable pub OldPageRefused : Type 0
-OldPageRefused = (s : Box) (c : Command) (es : List Event) (d : Command) (u v : Update) → kindOf c ≡ Change u → kindOf d ≡ Change v
-    → Accepted s c → Throughout SaltStays (step s c .box) es → groupOf (d .block) ≡ groupOf (c .block) → d .proof ≡ c .proof
-    → TagsDiffer (s .memory) (run (step s c .box) es .memory) (groupOf (c .block)) (broughtPage (c .proof))
-    → RefusedBy 7 (run (step s c .box) es) d
+  -- "Reading f = 1 as free without the expiry": a write before the expiry is refused
+  unfoldable pub NotFreeBeforeExpiry : Type 0
+  NotFreeBeforeExpiry = (s : Box) (c : Command) → c .kind ≡ 4 → flag (broughtEntry γ c .stamp) ≡ unfrozen → c .now < broughtEntry γ c .word
+      → RefusedBy γ 9 s c
 
--- "A restart that keeps the count, so the server's copy of the lost page still matches": after an accepted update c, a restart r, and
--- any events but a new salt, an update d that brings what c answered is refused
-unfoldable pub LostPageRefused : Type 0
-LostPageRefused = (s : Box) (c r : Command) (es : List Event) (d : Command) (u v : Update) → kindOf c ≡ Change u → r .kind ≡ 8
-    → kindOf d ≡ Change v → Accepted s c → Accepted (step s c .box) r → Throughout SaltStays (step (step s c .box) r .box) es
-    → groupOf (d .block) ≡ groupOf (c .block) → d .proof ≡ step s c .answer
-    → TagsDiffer (step s c .box .memory) (run (step (step s c .box) r .box) es .memory) (groupOf (c .block))
-    (broughtPage (step s c .answer))
-    → RefusedBy 7 (run (step (step s c .box) r .box) es) d
+  -- "Leaving the count out of the tag, so an old page still matches": after an accepted update c of a group, and any events but a new
+  -- salt, an update d of that group that brings the page and tag of c again is refused
+  unfoldable pub OldPageRefused : Type 0
+  OldPageRefused = (s : Box) (c : Command) (es : List Event) (d : Command) (u v : Update) → kindOf c ≡ Change u → kindOf d ≡ Change v
+      → Accepted γ s c → Throughout γ SaltStays (step γ s c .box) es → groupOf γ (d .block) ≡ groupOf γ (c .block) → d .proof ≡ c .proof
+      → TagsDiffer (s .memory) (run γ (step γ s c .box) es .memory) (groupOf γ (c .block)) (broughtPage γ (c .proof))
+      → RefusedBy γ 7 (run γ (step γ s c .box) es) d
 
--- "Sending block 64 to physical 64, on top of a page"
-pub record OnNoPage : Type 0 where
-  pub not-at-64 : physical 64 ≡ 64 → ⊥
-  pub on-no-page : (a g : ℕ) → physical a ≡ pageBlock g → ⊥
+  -- "A restart that keeps the count, so the server's copy of the lost page still matches": after an accepted update c, a restart r, and
+  -- any events but a new salt, an update d that brings what c answered is refused
+  unfoldable pub LostPageRefused : Type 0
+  LostPageRefused = (s : Box) (c r : Command) (es : List Event) (d : Command) (u v : Update) → kindOf c ≡ Change u → r .kind ≡ 8
+      → kindOf d ≡ Change v → Accepted γ s c → Accepted γ (step γ s c .box) r → Throughout γ SaltStays (step γ (step γ s c .box) r .box) es
+      → groupOf γ (d .block) ≡ groupOf γ (c .block) → d .proof ≡ step γ s c .answer
+      → TagsDiffer (step γ s c .box .memory) (run γ (step γ (step γ s c .box) r .box) es .memory) (groupOf γ (c .block))
+      (broughtPage γ (step γ s c .answer))
+      → RefusedBy γ 7 (run γ (step γ (step γ s c .box) r .box) es) d
 
--- "A second unfreeze that starts the countdown afresh": after an accepted unfreeze c, one of the same block that brings no forged
--- page is refused. A proof is bytes
-unfoldable pub SecondUnfreezeRefused : Type 0
-SecondUnfreezeRefused = (s : Box) (c d : Command) → c .kind ≡ 5 → d .kind ≡ 5 → d .block ≡ c .block → AreBytes (c .proof)
-    → Accepted s c → Unforged (step s c .box) (Given d) → RefusedBy 9 (step s c .box) d
+  -- "Sending block 64 to physical 64, on top of a page": at base, the first block of group 1 and the page of group 0
+  pub record OnNoPage : Type 0 where
+    pub not-at-page-0 : physical γ (groupData γ) ≡ groupData γ → ⊥
+    pub on-no-page : (a g : ℕ) → physical γ a ≡ pageBlock γ g → ⊥
 
-pub record Shortcuts : Type 0 where
-  pub not-free-before-expiry : NotFreeBeforeExpiry
-  pub old-page-refused : OldPageRefused
-  pub lost-page-refused : LostPageRefused
-  pub on-no-page : OnNoPage
-  pub second-unfreeze-refused : SecondUnfreezeRefused
+  -- "A second unfreeze that starts the countdown afresh": after an accepted unfreeze c, one of the same block that brings no forged
+  -- page is refused. A proof is bytes
+  unfoldable pub SecondUnfreezeRefused : Type 0
+  SecondUnfreezeRefused = (s : Box) (c d : Command) → c .kind ≡ 5 → d .kind ≡ 5 → d .block ≡ c .block → AreBytes (c .proof)
+      → Accepted γ s c → Unforged γ (step γ s c .box) (Given d) → RefusedBy γ 9 (step γ s c .box) d
+
+  pub record Shortcuts : Type 0 where
+    pub not-free-before-expiry : NotFreeBeforeExpiry
+    pub old-page-refused : OldPageRefused
+    pub lost-page-refused : LostPageRefused
+    pub on-no-page : OnNoPage
+    pub second-unfreeze-refused : SecondUnfreezeRefused

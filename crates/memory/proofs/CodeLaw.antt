@@ -8,6 +8,7 @@ use Rattle.octets.specs.Part.{part, replaced, repeated}
 use Rattle.octets.specs.Number.{numberAt, withNumber}
 use Rattle.octets.proofs.RepeatedLaw.{repeated-length}
 use Rattle.octets.proofs.ReplacedLaw.{replaced-all, part-copied, all-copied}
+use Rattle.lockpage.specs.Geometry.{Geometry, Proper}
 use Rattle.memory.specs.Layout.{memorySize, saltStart, saltSize, countSize, countStart, groupsStart, heldStart, byteSize}
 use Rattle.memory.specs.Memory.{salt, count, none, withSalt, withCount, withGroups, withHeld, formatted}
 
@@ -20,21 +21,23 @@ pub count-stored : (m r : List ℕ) (at g n : ℕ) → at ≡ countStart g → r
 unfolding withCount
 count-stored m r at g n ea er = er ∙ ap (λ (k : ℕ). withNumber m k countSize n) ea
 
-module _ (m r : List ℕ) (size : length m ≡ memorySize) where
-  pub salt-copied : (room : List ℕ) → length room ≡ saltSize → r ≡ replaced room 0 (part m saltStart saltSize) → r ≡ salt m
-  unfolding salt
-  salt-copied room s e = part-copied m room r saltStart saltSize s (omega arith) e
+-- γ is any proper geometry
+module _ {γ : Geometry} (σ : Proper γ) where
+  module _ (m r : List ℕ) (size : length m ≡ memorySize γ) where
+    pub salt-copied : (room : List ℕ) → length room ≡ saltSize → r ≡ replaced room 0 (part m saltStart saltSize) → r ≡ salt m
+    unfolding salt
+    salt-copied room s e = part-copied m room r saltStart saltSize s (omega arith) e
 
-  pub salt-stored : (s : List ℕ) → length s ≡ saltSize → r ≡ replaced m saltStart (part s 0 saltSize) → r ≡ withSalt m s
-  unfolding withSalt
-  salt-stored s l e = all-copied m s r saltStart saltSize l e
+    pub salt-stored : (s : List ℕ) → length s ≡ saltSize → r ≡ replaced m saltStart (part s 0 saltSize) → r ≡ withSalt m s
+    unfolding withSalt
+    salt-stored s l e = all-copied m s r saltStart saltSize l e
 
--- the memory of formatting, stored field after field
-pub format-stored : (m a b c r : List ℕ) (g : ℕ) (s : List ℕ) → length m ≡ memorySize → a ≡ replaced m 0 (repeated memorySize 0)
-    → b ≡ withSalt a s → c ≡ withNumber b groupsStart byteSize g → r ≡ withNumber c heldStart byteSize none → r ≡ formatted g s
-unfolding formatted withGroups withHeld
-format-stored m a b c r g s size ea eb ec er =
-    let zeros : a ≡ repeated memorySize 0 = ea ∙ replaced-all m (repeated memorySize 0) (repeated-length memorySize 0 ∙ sym size) in
-    er
-    ∙ ap (λ (x : List ℕ). withNumber x heldStart byteSize none)
-    (ec ∙ ap (λ (x : List ℕ). withNumber x groupsStart byteSize g) (eb ∙ ap (λ (x : List ℕ). withSalt x s) zeros))
+  -- the memory of formatting, stored field after field
+  pub format-stored : (m a b c r : List ℕ) (g : ℕ) (s : List ℕ) → length m ≡ memorySize γ → a ≡ replaced m 0 (repeated (memorySize γ) 0)
+      → b ≡ withSalt a s → c ≡ withNumber b (groupsStart γ) byteSize g → r ≡ withNumber c (heldStart γ) byteSize none → r ≡ formatted γ g s
+  unfolding formatted withGroups withHeld
+  format-stored m a b c r g s size ea eb ec er =
+      let zeros : a ≡ repeated (memorySize γ) 0 = ea ∙ replaced-all m (repeated (memorySize γ) 0) (repeated-length (memorySize γ) 0 ∙ sym size) in
+      er
+      ∙ ap (λ (x : List ℕ). withNumber x (heldStart γ) byteSize none)
+      (ec ∙ ap (λ (x : List ℕ). withNumber x (groupsStart γ) byteSize g) (eb ∙ ap (λ (x : List ℕ). withSalt x s) zeros))

@@ -6,79 +6,82 @@ use Rattle.octets.specs.Part.{AreBytes, repeated}
 use Rattle.octets.proofs.BelowLaw.{below-part, below-replaced}
 use Rattle.octets.proofs.RepeatedLaw.{repeated-below}
 use Rattle.octets.proofs.NumberLaw.{withNumber-are, numberAt-small}
+use Rattle.lockpage.specs.Geometry.{Geometry, Proper}
 use Rattle.lockpage.specs.Size.{pageSize}
 use Rattle.memory.specs.Layout.{memorySize, saltStart, saltSize, countsStart, countSize, countStart, timeStart, timeSize, groupsStart, heldStart, byteSize, pageStart}
 use Rattle.memory.specs.Memory.{salt, count, lastTime, groups, held, none, heldPage, withSalt, withCount, withNoCounts, withLastTime, withGroups, withHeld, withHeldPage, holding, holdingNone, formatted}
 
-module _ (m : List ℕ) (b : AreBytes m) where
-  -- ---- the fields
+-- γ is any proper geometry
+module _ {γ : Geometry} (σ : Proper γ) where
+  module _ (m : List ℕ) (b : AreBytes m) where
+    -- ---- the fields
 
-  pub salt-bytes : AreBytes (salt m)
-  unfolding salt
-  salt-bytes = below-part 256 m saltStart saltSize b
+    pub salt-bytes : AreBytes (salt m)
+    unfolding salt
+    salt-bytes = below-part 256 m saltStart saltSize b
 
-  pub heldPage-bytes : AreBytes (heldPage m)
-  unfolding heldPage
-  heldPage-bytes = below-part 256 m pageStart pageSize b
+    pub heldPage-bytes : AreBytes (heldPage γ m)
+    unfolding heldPage
+    heldPage-bytes = below-part 256 m (pageStart γ) (pageSize γ) b
 
-  pub count-small : (g : ℕ) → count m g < 256 ^ countSize
-  unfolding count
-  count-small g = numberAt-small m (countStart g) countSize b
+    pub count-small : (g : ℕ) → count m g < 256 ^ countSize
+    unfolding count
+    count-small g = numberAt-small m (countStart g) countSize b
 
-  pub lastTime-small : lastTime m < 256 ^ timeSize
-  unfolding lastTime
-  lastTime-small = numberAt-small m timeStart timeSize b
+    pub lastTime-small : lastTime γ m < 256 ^ timeSize
+    unfolding lastTime
+    lastTime-small = numberAt-small m (timeStart γ) timeSize b
 
-  pub groups-small : groups m < 256
-  unfolding groups
-  groups-small = numberAt-small m groupsStart byteSize b
+    pub groups-small : groups γ m < 256
+    unfolding groups
+    groups-small = numberAt-small m (groupsStart γ) byteSize b
 
-  pub held-small : held m < 256
-  unfolding held
-  held-small = numberAt-small m heldStart byteSize b
+    pub held-small : held γ m < 256
+    unfolding held
+    held-small = numberAt-small m (heldStart γ) byteSize b
 
-  -- ---- the changes
+    -- ---- the changes
 
-  pub withSalt-bytes : (s : List ℕ) → AreBytes s → AreBytes (withSalt m s)
-  unfolding withSalt
-  withSalt-bytes s c = below-replaced 256 m saltStart s b c
+    pub withSalt-bytes : (s : List ℕ) → AreBytes s → AreBytes (withSalt m s)
+    unfolding withSalt
+    withSalt-bytes s c = below-replaced 256 m saltStart s b c
 
-  pub withCount-bytes : (g n : ℕ) → AreBytes (withCount m g n)
-  unfolding withCount
-  withCount-bytes g n = withNumber-are m _ countSize n b
+    pub withCount-bytes : (g n : ℕ) → AreBytes (withCount m g n)
+    unfolding withCount
+    withCount-bytes g n = withNumber-are m _ countSize n b
 
-  pub withNoCounts-bytes : AreBytes (withNoCounts m)
-  unfolding withNoCounts
-  withNoCounts-bytes =
-      below-replaced 256 m countsStart (repeated (timeStart - countsStart) 0) b (repeated-below 256 (timeStart - countsStart) 0 (omega arith))
+    pub withNoCounts-bytes : AreBytes (withNoCounts γ m)
+    unfolding withNoCounts
+    withNoCounts-bytes =
+        below-replaced 256 m countsStart (repeated (timeStart γ - countsStart) 0) b (repeated-below 256 (timeStart γ - countsStart) 0 (omega arith))
 
-  pub withLastTime-bytes : (t : ℕ) → AreBytes (withLastTime m t)
-  unfolding withLastTime
-  withLastTime-bytes t = withNumber-are m timeStart timeSize t b
+    pub withLastTime-bytes : (t : ℕ) → AreBytes (withLastTime γ m t)
+    unfolding withLastTime
+    withLastTime-bytes t = withNumber-are m (timeStart γ) timeSize t b
 
-  pub withGroups-bytes : (g : ℕ) → AreBytes (withGroups m g)
-  unfolding withGroups
-  withGroups-bytes g = withNumber-are m groupsStart byteSize g b
+    pub withGroups-bytes : (g : ℕ) → AreBytes (withGroups γ m g)
+    unfolding withGroups
+    withGroups-bytes g = withNumber-are m (groupsStart γ) byteSize g b
 
-  pub withHeld-bytes : (g : ℕ) → AreBytes (withHeld m g)
-  unfolding withHeld
-  withHeld-bytes g = withNumber-are m heldStart byteSize g b
+    pub withHeld-bytes : (g : ℕ) → AreBytes (withHeld γ m g)
+    unfolding withHeld
+    withHeld-bytes g = withNumber-are m (heldStart γ) byteSize g b
 
-  pub withHeldPage-bytes : (p : List ℕ) → AreBytes p → AreBytes (withHeldPage m p)
-  unfolding withHeldPage
-  withHeldPage-bytes p c = below-replaced 256 m pageStart p b c
+    pub withHeldPage-bytes : (p : List ℕ) → AreBytes p → AreBytes (withHeldPage γ m p)
+    unfolding withHeldPage
+    withHeldPage-bytes p c = below-replaced 256 m (pageStart γ) p b c
 
-pub holding-bytes : (m : List ℕ) → AreBytes m → (g : ℕ) (p : List ℕ) → AreBytes p → AreBytes (holding m g p)
-unfolding holding
-holding-bytes m b g p c = withHeldPage-bytes (withHeld m g) (withHeld-bytes m b g) p c
+  pub holding-bytes : (m : List ℕ) → AreBytes m → (g : ℕ) (p : List ℕ) → AreBytes p → AreBytes (holding γ m g p)
+  unfolding holding
+  holding-bytes m b g p c = withHeldPage-bytes (withHeld γ m g) (withHeld-bytes m b g) p c
 
-pub holdingNone-bytes : (m : List ℕ) → AreBytes m → AreBytes (holdingNone m)
-unfolding holdingNone
-holdingNone-bytes m b = holding-bytes m b none (repeated pageSize 0) (repeated-below 256 pageSize 0 (omega arith))
+  pub holdingNone-bytes : (m : List ℕ) → AreBytes m → AreBytes (holdingNone γ m)
+  unfolding holdingNone
+  holdingNone-bytes m b = holding-bytes m b none (repeated (pageSize γ) 0) (repeated-below 256 (pageSize γ) 0 (omega arith))
 
-pub formatted-bytes : (g : ℕ) (s : List ℕ) → AreBytes s → AreBytes (formatted g s)
-unfolding formatted
-formatted-bytes g s c =
-    let zeros = repeated-below 256 memorySize 0 (omega arith) in
-    let salted = withSalt-bytes (repeated memorySize 0) zeros s c in
-    withHeld-bytes (withGroups (withSalt (repeated memorySize 0) s) g) (withGroups-bytes (withSalt (repeated memorySize 0) s) salted g) none
+  pub formatted-bytes : (g : ℕ) (s : List ℕ) → AreBytes s → AreBytes (formatted γ g s)
+  unfolding formatted
+  formatted-bytes g s c =
+      let zeros = repeated-below 256 (memorySize γ) 0 (omega arith) in
+      let salted = withSalt-bytes (repeated (memorySize γ) 0) zeros s c in
+      withHeld-bytes (withGroups γ (withSalt (repeated (memorySize γ) 0) s) g) (withGroups-bytes (withSalt (repeated (memorySize γ) 0) s) salted g) none

@@ -1,5 +1,6 @@
 -- The claims of specs/Claims.antt, proved. Assumes nothing.
 use mathlib.Core.Path.{refl}
+use Rattle.lockpage.specs.Geometry.{Geometry, Proper}
 use Rattle.memory.specs.Claims.{PapersPlaces, GetAfterSet, FormattedReads}
 use Rattle.memory.proofs.FieldLaw.{salt-set, count-set, counts-cleared, time-set, groups-set, held-set, page-set, page-held, page-dropped}
 use Rattle.memory.proofs.FormatLaw as F
@@ -16,21 +17,23 @@ papers-places =
       page-at = (refl, refl);
     }
 
-pub get-after-set : GetAfterSet
-unfolding GetAfterSet
-get-after-set m size =
-    record {
-      salt-set = salt-set m size;
-      count-set = count-set m size;
-      counts-cleared = counts-cleared m size;
-      time-set = time-set m size;
-      groups-set = groups-set m size;
-      held-set = held-set m size;
-      page-set = page-set m size;
-      page-held = page-held m size;
-      page-dropped = page-dropped m size;
-    }
+-- γ is any proper geometry
+module _ {γ : Geometry} (σ : Proper γ) where
+  pub get-after-set : GetAfterSet γ
+  unfolding GetAfterSet
+  get-after-set m size =
+      record {
+        salt-set = salt-set σ m size;
+        count-set = count-set σ m size;
+        counts-cleared = counts-cleared σ m size;
+        time-set = time-set σ m size;
+        groups-set = groups-set σ m size;
+        held-set = held-set σ m size;
+        page-set = page-set σ m size;
+        page-held = page-held σ m size;
+        page-dropped = page-dropped σ m size;
+      }
 
-pub formatted-reads : FormattedReads
-unfolding FormattedReads
-formatted-reads = F.formatted-reads
+  pub formatted-reads : FormattedReads γ
+  unfolding FormattedReads
+  formatted-reads = F.formatted-reads σ

@@ -6,8 +6,9 @@ use mathlib.Core.List.{List}
 use lib.ListN.{length}
 use lib.Dec.{eqb}
 use Rattle.octets.specs.Part.{repeated}
+use Rattle.lockpage.specs.Geometry.{Geometry, base}
 use Rattle.lockpage.specs.Size.{pageSize}
-use Rattle.memory.specs.Layout.{memorySize, saltStart, saltSize, countSize, mostGroups, countStart, timeStart, timeSize, groupsStart, heldStart, reservedStart, reservedSize, pageStart}
+use Rattle.memory.specs.Layout.{memorySize, saltStart, saltSize, countSize, countStart, timeStart, timeSize, groupsStart, heldStart, reservedStart, reservedSize, pageStart}
 use Rattle.memory.specs.Memory.{salt, count, lastTime, groups, held, none, heldPage, withSalt, withCount, withNoCounts, withLastTime, withGroups, withHeld, withHeldPage, holding, holdingNone, formatted}
 
 -- ---- document 01's places
@@ -16,46 +17,48 @@ use Rattle.memory.specs.Memory.{salt, count, lastTime, groups, held, non
 -- page"
 pub record PapersPlaces : Type 0 where
   pub salt-at : (saltStart ≡ 0) × (saltStart + saltSize ≡ 32)
-  pub counts-at : (countStart 0 ≡ 32) × (countStart mostGroups ≡ 96)
-  pub time-at : (timeStart ≡ 96) × (timeStart + timeSize ≡ 100)
-  pub groups-at : groupsStart ≡ 100
-  pub held-at : heldStart ≡ 101
-  pub reserved-at : (reservedStart ≡ 102) × (reservedStart + reservedSize ≡ 104)
-  pub page-at : (pageStart ≡ 104) × (pageStart + pageSize ≡ 616)
+  pub counts-at : (countStart 0 ≡ 32) × (countStart (base .mostGroups) ≡ 96)
+  pub time-at : (timeStart base ≡ 96) × (timeStart base + timeSize ≡ 100)
+  pub groups-at : groupsStart base ≡ 100
+  pub held-at : heldStart base ≡ 101
+  pub reserved-at : (reservedStart base ≡ 102) × (reservedStart base + reservedSize ≡ 104)
+  pub page-at : (pageStart base ≡ 104) × (pageStart base + pageSize base ≡ 616)
 
 -- ---- get after set: what each field reads
-
-pub record Reads (m s : List ℕ) (c : ℕ → ℕ) (t g h : ℕ) (p : List ℕ) : Type 0 where
-  pub size : length m ≡ memorySize
-  pub salt : salt m ≡ s
-  pub count : (k : ℕ) → k < mostGroups → count m k ≡ c k
-  pub time : lastTime m ≡ t
-  pub groups : groups m ≡ g
-  pub held : held m ≡ h
-  pub page : heldPage m ≡ p
 
 -- c with n for g
 abbrev pub changed : (ℕ → ℕ) → ℕ → ℕ → ℕ → ℕ
 changed c g n k = elim (eqb k g) [ true ↦ n | false ↦ c k ]
 
--- each change sets its own field and leaves the others
-pub record Sets (m : List ℕ) : Type 0 where
-  pub salt-set : (s : List ℕ) → length s ≡ saltSize → Reads (withSalt m s) s (count m) (lastTime m) (groups m) (held m) (heldPage m)
-  pub count-set : (g n : ℕ) → g < mostGroups → n < 256 ^ countSize
-      → Reads (withCount m g n) (salt m) (changed (count m) g n) (lastTime m) (groups m) (held m) (heldPage m)
-  pub counts-cleared : Reads (withNoCounts m) (salt m) (λ k. 0) (lastTime m) (groups m) (held m) (heldPage m)
-  pub time-set : (t : ℕ) → t < 256 ^ timeSize → Reads (withLastTime m t) (salt m) (count m) t (groups m) (held m) (heldPage m)
-  pub groups-set : (g : ℕ) → g < 256 → Reads (withGroups m g) (salt m) (count m) (lastTime m) g (held m) (heldPage m)
-  pub held-set : (g : ℕ) → g < 256 → Reads (withHeld m g) (salt m) (count m) (lastTime m) (groups m) g (heldPage m)
-  pub page-set : (p : List ℕ) → length p ≡ pageSize → Reads (withHeldPage m p) (salt m) (count m) (lastTime m) (groups m) (held m) p
-  pub page-held : (g : ℕ) (p : List ℕ) → g < 256 → length p ≡ pageSize
-      → Reads (holding m g p) (salt m) (count m) (lastTime m) (groups m) g p
-  pub page-dropped : Reads (holdingNone m) (salt m) (count m) (lastTime m) (groups m) none (repeated pageSize 0)
+-- γ is the box's geometry
+module _ (γ : Geometry) where
+  pub record Reads (m s : List ℕ) (c : ℕ → ℕ) (t g h : ℕ) (p : List ℕ) : Type 0 where
+    pub size : length m ≡ memorySize γ
+    pub salt : salt m ≡ s
+    pub count : (k : ℕ) → k < γ .mostGroups → count m k ≡ c k
+    pub time : lastTime γ m ≡ t
+    pub groups : groups γ m ≡ g
+    pub held : held γ m ≡ h
+    pub page : heldPage γ m ≡ p
 
-unfoldable pub GetAfterSet : Type 0
-GetAfterSet = (m : List ℕ) → length m ≡ memorySize → Sets m
+  -- each change sets its own field and leaves the others
+  pub record Sets (m : List ℕ) : Type 0 where
+    pub salt-set : (s : List ℕ) → length s ≡ saltSize → Reads (withSalt m s) s (count m) (lastTime γ m) (groups γ m) (held γ m) (heldPage γ m)
+    pub count-set : (g n : ℕ) → g < γ .mostGroups → n < 256 ^ countSize
+        → Reads (withCount m g n) (salt m) (changed (count m) g n) (lastTime γ m) (groups γ m) (held γ m) (heldPage γ m)
+    pub counts-cleared : Reads (withNoCounts γ m) (salt m) (λ k. 0) (lastTime γ m) (groups γ m) (held γ m) (heldPage γ m)
+    pub time-set : (t : ℕ) → t < 256 ^ timeSize → Reads (withLastTime γ m t) (salt m) (count m) t (groups γ m) (held γ m) (heldPage γ m)
+    pub groups-set : (g : ℕ) → g < 256 → Reads (withGroups γ m g) (salt m) (count m) (lastTime γ m) g (held γ m) (heldPage γ m)
+    pub held-set : (g : ℕ) → g < 256 → Reads (withHeld γ m g) (salt m) (count m) (lastTime γ m) (groups γ m) g (heldPage γ m)
+    pub page-set : (p : List ℕ) → length p ≡ pageSize γ → Reads (withHeldPage γ m p) (salt m) (count m) (lastTime γ m) (groups γ m) (held γ m) p
+    pub page-held : (g : ℕ) (p : List ℕ) → g < 256 → length p ≡ pageSize γ
+        → Reads (holding γ m g p) (salt m) (count m) (lastTime γ m) (groups γ m) g p
+    pub page-dropped : Reads (holdingNone γ m) (salt m) (count m) (lastTime γ m) (groups γ m) none (repeated (pageSize γ) 0)
 
--- formatting sets them all
-unfoldable pub FormattedReads : Type 0
-FormattedReads = (g : ℕ) (s : List ℕ) → g < 256 → length s ≡ saltSize
-    → Reads (formatted g s) s (λ k. 0) 0 g none (repeated pageSize 0)
+  unfoldable pub GetAfterSet : Type 0
+  GetAfterSet = (m : List ℕ) → length m ≡ memorySize γ → Sets m
+
+  -- formatting sets them all
+  unfoldable pub FormattedReads : Type 0
+  FormattedReads = (g : ℕ) (s : List ℕ) → g < 256 → length s ≡ saltSize
+      → Reads (formatted γ g s) s (λ k. 0) 0 g none (repeated (pageSize γ) 0)

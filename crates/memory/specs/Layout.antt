@@ -1,6 +1,7 @@
 -- Where each field of the controller memory stands, one after the other, after document 01, "Controller memory, 616 bytes". That
 -- the places are the paper's numbers is the claim PapersPlaces. Assumes nothing: these are definitions.
 use Prim.Native.Nat.{ℕ, _+_, _*_}
+use Rattle.lockpage.specs.Geometry.{Geometry}
 use Rattle.lockpage.specs.Size.{pageSize}
 
 -- "0..31 salt"
@@ -17,39 +18,39 @@ countsStart = saltStart + saltSize
 abbrev pub countSize : ℕ
 countSize = 4
 
-abbrev pub mostGroups : ℕ
-mostGroups = 16
-
 abbrev pub countStart : ℕ → ℕ
 countStart g = countsStart + countSize * g
 
--- "96..99 last time"
-abbrev pub timeStart : ℕ
-timeStart = countsStart + countSize * mostGroups
-
+-- of the fields behind them
 abbrev pub timeSize : ℕ
 timeSize = 4
 
--- "100 G; 101 held group or 255"
 abbrev pub byteSize : ℕ
 byteSize = 1
-
-abbrev pub groupsStart : ℕ
-groupsStart = timeStart + timeSize
-
-abbrev pub heldStart : ℕ
-heldStart = groupsStart + byteSize
-
--- "102, 103 zero"
-abbrev pub reservedStart : ℕ
-reservedStart = heldStart + byteSize
 
 abbrev pub reservedSize : ℕ
 reservedSize = 2
 
--- "104..615 held page"
-abbrev pub pageStart : ℕ
-pageStart = reservedStart + reservedSize
+-- γ is the box's geometry; the numbers quoted are those at base
+module _ (γ : Geometry) where
+  -- "96..99 last time"
+  abbrev pub timeStart : ℕ
+  timeStart = countsStart + countSize * γ .mostGroups
 
-abbrev pub memorySize : ℕ
-memorySize = pageStart + pageSize
+  -- "100 G; 101 held group or 255"
+  abbrev pub groupsStart : ℕ
+  groupsStart = timeStart + timeSize
+
+  abbrev pub heldStart : ℕ
+  heldStart = groupsStart + byteSize
+
+  -- "102, 103 zero"
+  abbrev pub reservedStart : ℕ
+  reservedStart = heldStart + byteSize
+
+  -- "104..615 held page"
+  abbrev pub pageStart : ℕ
+  pageStart = reservedStart + reservedSize
+
+  abbrev pub memorySize : ℕ
+  memorySize = pageStart + pageSize γ

@@ -4,10 +4,11 @@ use Prim.Native.Nat.{ℕ, _-_}
 use mathlib.Core.List.{List}
 use Rattle.octets.specs.Part.{part, replaced, repeated}
 use Rattle.octets.specs.Number.{numberAt, withNumber}
+use Rattle.lockpage.specs.Geometry.{Geometry}
 use Rattle.lockpage.specs.Size.{pageSize}
 use Rattle.memory.specs.Layout.{memorySize, saltStart, saltSize, countsStart, countSize, countStart, timeStart, timeSize, groupsStart, heldStart, byteSize, pageStart}
 
--- ---- read
+-- ---- the fields whose place is the same in every box
 
 unfoldable pub salt : List ℕ → List ℕ
 salt m = part m saltStart saltSize
@@ -16,58 +17,62 @@ salt m = part m saltStart saltSize
 unfoldable pub count : List ℕ → ℕ → ℕ
 count m g = numberAt m (countStart g) countSize
 
-unfoldable pub lastTime : List ℕ → ℕ
-lastTime m = numberAt m timeStart timeSize
-
--- G
-unfoldable pub groups : List ℕ → ℕ
-groups m = numberAt m groupsStart byteSize
-
--- the held group, or none
-unfoldable pub held : List ℕ → ℕ
-held m = numberAt m heldStart byteSize
-
--- "held group or 255"
-abbrev pub none : ℕ
-none = 255
-
-unfoldable pub heldPage : List ℕ → List ℕ
-heldPage m = part m pageStart pageSize
-
--- ---- replaced
-
 unfoldable pub withSalt : List ℕ → List ℕ → List ℕ
 withSalt m s = replaced m saltStart s
 
 unfoldable pub withCount : List ℕ → ℕ → ℕ → List ℕ
 withCount m g n = withNumber m (countStart g) countSize n
 
--- "all counts 0"
-unfoldable pub withNoCounts : List ℕ → List ℕ
-withNoCounts m = replaced m countsStart (repeated (timeStart - countsStart) 0)
+-- "held group or 255"
+abbrev pub none : ℕ
+none = 255
 
-unfoldable pub withLastTime : List ℕ → ℕ → List ℕ
-withLastTime m t = withNumber m timeStart timeSize t
+-- γ is the box's geometry
+module _ (γ : Geometry) where
+  -- ---- the others, read
 
-unfoldable pub withGroups : List ℕ → ℕ → List ℕ
-withGroups m g = withNumber m groupsStart byteSize g
+  unfoldable pub lastTime : List ℕ → ℕ
+  lastTime m = numberAt m (timeStart γ) timeSize
 
-unfoldable pub withHeld : List ℕ → ℕ → List ℕ
-withHeld m g = withNumber m heldStart byteSize g
+  -- G
+  unfoldable pub groups : List ℕ → ℕ
+  groups m = numberAt m (groupsStart γ) byteSize
 
-unfoldable pub withHeldPage : List ℕ → List ℕ → List ℕ
-withHeldPage m p = replaced m pageStart p
+  -- the held group, or none
+  unfoldable pub held : List ℕ → ℕ
+  held m = numberAt m (heldStart γ) byteSize
 
--- ---- several at once
+  unfoldable pub heldPage : List ℕ → List ℕ
+  heldPage m = part m (pageStart γ) (pageSize γ)
 
--- page p of group g "becomes the held one"
-unfoldable pub holding : List ℕ → ℕ → List ℕ → List ℕ
-holding m g p = withHeldPage (withHeld m g) p
+  -- ---- replaced
 
--- "held becomes 255 and its bytes zero"
-unfoldable pub holdingNone : List ℕ → List ℕ
-holdingNone m = holding m none (repeated pageSize 0)
+  -- "all counts 0"
+  unfoldable pub withNoCounts : List ℕ → List ℕ
+  withNoCounts m = replaced m countsStart (repeated (timeStart γ - countsStart) 0)
 
--- formatting "stores both", G and the salt, "sets .. held to 255 and the rest of the memory to 0"
-unfoldable pub formatted : ℕ → List ℕ → List ℕ
-formatted g s = withHeld (withGroups (withSalt (repeated memorySize 0) s) g) none
+  unfoldable pub withLastTime : List ℕ → ℕ → List ℕ
+  withLastTime m t = withNumber m (timeStart γ) timeSize t
+
+  unfoldable pub withGroups : List ℕ → ℕ → List ℕ
+  withGroups m g = withNumber m (groupsStart γ) byteSize g
+
+  unfoldable pub withHeld : List ℕ → ℕ → List ℕ
+  withHeld m g = withNumber m (heldStart γ) byteSize g
+
+  unfoldable pub withHeldPage : List ℕ → List ℕ → List ℕ
+  withHeldPage m p = replaced m (pageStart γ) p
+
+  -- ---- several at once
+
+  -- page p of group g "becomes the held one"
+  unfoldable pub holding : List ℕ → ℕ → List ℕ → List ℕ
+  holding m g p = withHeldPage (withHeld m g) p
+
+  -- "held becomes 255 and its bytes zero"
+  unfoldable pub holdingNone : List ℕ → List ℕ
+  holdingNone m = holding m none (repeated (pageSize γ) 0)
+
+  -- formatting "stores both", G and the salt, "sets .. held to 255 and the rest of the memory to 0"
+  unfoldable pub formatted : ℕ → List ℕ → List ℕ
+  formatted g s = withHeld (withGroups (withSalt (repeated (memorySize γ) 0) s) g) none

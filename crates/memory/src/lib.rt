@@ -4,7 +4,8 @@ ghost use mathlib.Core.Path.{_≡_};
 ghost use Prim.Native.Nat.{_<_};
 ghost use lib.ListN.{length};
 ghost use Rattle.octets.specs.Part.{equal};
-ghost use Rattle.memory.specs.Layout.{memorySize, saltSize, mostGroups};
+ghost use Rattle.lockpage.specs.Geometry.{present};
+ghost use Rattle.memory.specs.Layout.{memorySize, saltSize};
 ghost use Rattle.memory.specs.Memory.{lastTime, withSalt, withCount, withNoCounts, withLastTime, formatted};
 ghost use Rattle.memory.specs.Memory as M;
 
@@ -12,8 +13,8 @@ pub mod layout;
 
 // The number of groups.
 pub fn groups(memory: &[u8]) -> u32
-    requires { ⌜ length (now memory) ≡ memorySize ⌝ }
-    ensures { λ r. ⌜ r ≡ M.groups (now (memory .entry)) ⌝ }
+    requires { ⌜ length (now memory) ≡ memorySize present ⌝ }
+    ensures { λ r. ⌜ r ≡ M.groups present (now (memory .entry)) ⌝ }
 {
     let byte = octets::load_u8(memory, layout::GROUPS_START);
     byte as u32
@@ -21,8 +22,8 @@ pub fn groups(memory: &[u8]) -> u32
 
 // The held group, or NONE.
 pub fn held(memory: &[u8]) -> u32
-    requires { ⌜ length (now memory) ≡ memorySize ⌝ }
-    ensures { λ r. ⌜ r ≡ M.held (now (memory .entry)) ⌝ }
+    requires { ⌜ length (now memory) ≡ memorySize present ⌝ }
+    ensures { λ r. ⌜ r ≡ M.held present (now (memory .entry)) ⌝ }
 {
     let byte = octets::load_u8(memory, layout::HELD_START);
     byte as u32
@@ -30,23 +31,23 @@ pub fn held(memory: &[u8]) -> u32
 
 // The last time.
 pub fn last_time(memory: &[u8]) -> u32
-    requires { ⌜ length (now memory) ≡ memorySize ⌝ }
-    ensures { λ r. ⌜ r ≡ lastTime (now (memory .entry)) ⌝ }
+    requires { ⌜ length (now memory) ≡ memorySize present ⌝ }
+    ensures { λ r. ⌜ r ≡ lastTime present (now (memory .entry)) ⌝ }
 {
     octets::load_u32(memory, layout::TIME_START)
 }
 
 // Sets the last time.
 pub fn set_last_time(memory: &mut [u8], time: u32)
-    requires { ⌜ length (now memory) ≡ memorySize ⌝ }
-    ensures { λ _. ⌜ now (memory .exit) ≡ withLastTime (now (memory .entry)) time ⌝ }
+    requires { ⌜ length (now memory) ≡ memorySize present ⌝ }
+    ensures { λ _. ⌜ now (memory .exit) ≡ withLastTime present (now (memory .entry)) time ⌝ }
 {
     octets::store_u32(memory, layout::TIME_START, time);
 }
 
 // The freshness count of a group.
 pub fn count(memory: &[u8], group: u32) -> u32
-    requires { ⌜ (length (now memory) ≡ memorySize) × (group < mostGroups) ⌝ }
+    requires { ⌜ (length (now memory) ≡ memorySize present) × (group < present .mostGroups) ⌝ }
     ensures { λ r. ⌜ r ≡ M.count (now (memory .entry)) group ⌝ }
 {
     octets::load_u32(memory, layout::count_start(group))
@@ -54,7 +55,7 @@ pub fn count(memory: &[u8], group: u32) -> u32
 
 // Sets the freshness count of a group.
 pub fn set_count(memory: &mut [u8], group: u32, n: u32)
-    requires { ⌜ (length (now memory) ≡ memorySize) × (group < mostGroups) ⌝ }
+    requires { ⌜ (length (now memory) ≡ memorySize present) × (group < present .mostGroups) ⌝ }
     ensures { λ _. ⌜ now (memory .exit) ≡ withCount (now (memory .entry)) group n ⌝ }
 {
     octets::store_u32(memory, layout::count_start(group), n);
@@ -62,8 +63,8 @@ pub fn set_count(memory: &mut [u8], group: u32, n: u32)
 
 // Sets all counts to 0.
 pub fn clear_counts(memory: &mut [u8])
-    requires { ⌜ length (now memory) ≡ memorySize ⌝ }
-    ensures { λ _. ⌜ now (memory .exit) ≡ withNoCounts (now (memory .entry)) ⌝ }
+    requires { ⌜ length (now memory) ≡ memorySize present ⌝ }
+    ensures { λ _. ⌜ now (memory .exit) ≡ withNoCounts present (now (memory .entry)) ⌝ }
 {
     octets::fill(
         memory,
@@ -75,7 +76,7 @@ pub fn clear_counts(memory: &mut [u8])
 
 // Copies the salt into out.
 pub fn copy_salt(memory: &[u8], out: &mut [u8])
-    requires { ⌜ (length (now memory) ≡ memorySize) × (length (now out) ≡ saltSize) ⌝ }
+    requires { ⌜ (length (now memory) ≡ memorySize present) × (length (now out) ≡ saltSize) ⌝ }
     ensures { λ _. ⌜ now (out .exit) ≡ M.salt (now (memory .entry)) ⌝ }
 {
     octets::copy(memory, layout::SALT_START, out, 0, layout::SALT_SIZE);
@@ -83,7 +84,7 @@ pub fn copy_salt(memory: &[u8], out: &mut [u8])
 
 // Whether the salt is the one given.
 pub fn has_salt(memory: &[u8], salt: &[u8]) -> bool
-    requires { ⌜ length (now memory) ≡ memorySize ⌝ }
+    requires { ⌜ length (now memory) ≡ memorySize present ⌝ }
     ensures { λ r. ⌜ r ≡ equal (M.salt (now (memory .entry))) (now (salt .entry)) ⌝ }
 {
     let end = layout::SALT_START + layout::SALT_SIZE;
@@ -92,7 +93,7 @@ pub fn has_salt(memory: &[u8], salt: &[u8]) -> bool
 
 // Sets the salt.
 pub fn set_salt(memory: &mut [u8], salt: &[u8])
-    requires { ⌜ (length (now memory) ≡ memorySize) × (length (now salt) ≡ saltSize) ⌝ }
+    requires { ⌜ (length (now memory) ≡ memorySize present) × (length (now salt) ≡ saltSize) ⌝ }
     ensures { λ _. ⌜ now (memory .exit) ≡ withSalt (now (memory .entry)) (now (salt .entry)) ⌝ }
 {
     octets::copy(salt, 0, memory, layout::SALT_START, layout::SALT_SIZE);
@@ -100,8 +101,8 @@ pub fn set_salt(memory: &mut [u8], salt: &[u8])
 
 // Makes the memory that of a box just formatted.
 pub fn format(memory: &mut [u8], groups: u32, salt: &[u8])
-    requires { ⌜ (length (now memory) ≡ memorySize) × ((groups < 256) × (length (now salt) ≡ saltSize)) ⌝ }
-    ensures { λ _. ⌜ now (memory .exit) ≡ formatted groups (now (salt .entry)) ⌝ }
+    requires { ⌜ (length (now memory) ≡ memorySize present) × ((groups < 256) × (length (now salt) ≡ saltSize)) ⌝ }
+    ensures { λ _. ⌜ now (memory .exit) ≡ formatted present groups (now (salt .entry)) ⌝ }
 {
     octets::fill(memory, 0, layout::MEMORY_SIZE, 0);
     set_salt(memory, salt);

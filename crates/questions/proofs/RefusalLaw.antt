@@ -10,11 +10,11 @@ use lib.Dec.{eqb, leb}
 use lib.ListN.{length}
 use Rattle.octets.specs.Part.{equal}
 use Rattle.octets.proofs.EqualLaw.{equal-true, equal-yes, equal-no}
+use Rattle.lockpage.specs.Geometry.{Geometry, Proper}
 use Rattle.lockpage.specs.declared.Update.{Update}
 use Rattle.lockpage.specs.Update.{latestTime}
 use Rattle.addressing.specs.Map.{dataBlocks, groupOf}
 use Rattle.addressing.proofs.MapLaw.{groupOf-below}
-use Rattle.memory.specs.Layout.{mostGroups}
 use Rattle.memory.specs.Memory.{salt, lastTime, groups}
 use Rattle.validity.specs.Valid.{valid}
 use Rattle.validity.proofs.ValidLaw.{facts}
@@ -26,110 +26,114 @@ use Rattle.machine.proofs.QuestionLaw.{numberedTo, accepted-yes, passes-on, say
 use Rattle.form.specs.Parts.{formQuestions}
 use Rattle.questions.specs.Parts.{changeQuestions}
 
--- ---- a new salt
+-- γ is the box's geometry
+module _ (γ : Geometry) where
+  abbrev form : Kind → Box → Command → List Question
+  form k s c = formQuestions γ k (s .memory) (s .disk) (c .block) (c .now) (c .content) (c .proof) (c .answer)
 
-module _ (m content : List ℕ) (r : Bool) (e : r ≡ equal (salt m) content) where
-  pub same-salt : r ≡ true → 11 ≡ firstNo (question11 NewSalt m content ∷ [])
-  same-salt h =
-      let same = equal-true (salt m) content (sym e ∙ h) in
-      says-no 11 (question11 NewSalt m content) [] false refl (sym (ap not (equal-yes content (salt m) (sym same)))) refl
+  -- the questions after them
+  abbrev pub rest : Kind → Box → Command → List Question
+  rest k s c =
+      question7 γ k (s .memory) (groupOf γ (c .block)) (c .proof)
+      ∷ question8 γ k (s .memory) (groupOf γ (c .block))
+      ∷ question9 γ k (c .now) (broughtEntry γ c)
+      ∷ question10 γ k (c .now) (broughtEntry γ c)
+      ∷ question11 γ k (s .memory) (c .content)
+      ∷ []
 
-  pub other-salt : r ≡ false → 0 ≡ firstNo (question11 NewSalt m content ∷ [])
-  unfolding firstNo
-  other-salt h =
-      let other = equal-no content (salt m) (λ s. false≢true (sym h ∙ e ∙ equal-yes (salt m) content (sym s))) in
-      goes-on (question11 NewSalt m content) [] true (sym (ap not other)) refl
+  -- the first six have yes
+  pub record Formed (k : Kind) (s : Box) (c : Command) : Type 0 where
+    pub memory : valid γ (s .memory) ≡ true
+    pub yes-form : AllYes (form k s c)
 
--- ---- question 1, then 2 to 6
+-- γ is any proper geometry
+module _ {γ : Geometry} (σ : Proper γ) where
+  -- ---- a new salt
 
-abbrev form : Kind → Box → Command → List Question
-form k s c = formQuestions k (s .memory) (s .disk) (c .block) (c .now) (c .content) (c .proof) (c .answer)
+  module _ (m content : List ℕ) (r : Bool) (e : r ≡ equal (salt m) content) where
+    pub same-salt : r ≡ true → 11 ≡ firstNo (question11 γ NewSalt m content ∷ [])
+    same-salt h =
+        let same = equal-true (salt m) content (sym e ∙ h) in
+        says-no 11 (question11 γ NewSalt m content) [] false refl (sym (ap not (equal-yes content (salt m) (sym same)))) refl
 
--- the questions after them
-abbrev pub rest : Kind → Box → Command → List Question
-rest k s c =
-    question7 k (s .memory) (groupOf (c .block)) (c .proof)
-    ∷ question8 k (s .memory) (groupOf (c .block))
-    ∷ question9 k (c .now) (broughtEntry c)
-    ∷ question10 k (c .now) (broughtEntry c)
-    ∷ question11 k (s .memory) (c .content)
-    ∷ []
+    pub other-salt : r ≡ false → 0 ≡ firstNo (question11 γ NewSalt m content ∷ [])
+    unfolding firstNo
+    other-salt h =
+        let other = equal-no content (salt m) (λ s. false≢true (sym h ∙ e ∙ equal-yes (salt m) content (sym s))) in
+        goes-on (question11 γ NewSalt m content) [] true (sym (ap not other)) refl
 
-form-numbered : (k : Kind) (s : Box) (c : Command) → numberedTo 6 (form k s c) ≡ true
-unfolding numberedTo
-form-numbered Read s c = refl
-form-numbered Entry s c = refl
-form-numbered Page s c = refl
-form-numbered (Change u) s c = refl
-form-numbered Sync s c = refl
-form-numbered Restart s c = refl
-form-numbered NewSalt s c = refl
-form-numbered Identify s c = refl
-form-numbered Unknown s c = refl
+  -- ---- question 1, then 2 to 6
 
--- the first six have yes
-pub record Formed (k : Kind) (s : Box) (c : Command) : Type 0 where
-  pub memory : valid (s .memory) ≡ true
-  pub yes-form : AllYes (form k s c)
+  form-numbered : (k : Kind) (s : Box) (c : Command) → numberedTo 6 (form γ k s c) ≡ true
+  unfolding numberedTo
+  form-numbered Read s c = refl
+  form-numbered Entry s c = refl
+  form-numbered Page s c = refl
+  form-numbered (Change u) s c = refl
+  form-numbered Sync s c = refl
+  form-numbered Restart s c = refl
+  form-numbered NewSalt s c = refl
+  form-numbered Identify s c = refl
+  form-numbered Unknown s c = refl
 
--- r is the answer to question 1
-module _ (k : Kind) (s : Box) (c : Command) (r : Bool) (e : r ≡ valid (s .memory)) where
-  pub invalid-refused : not r ≡ true → 1 ≡ firstNo (questionsTo k s c)
-  invalid-refused h = says-no 1 (question1 (s .memory)) (form k s c ++ rest k s c) r refl e h
+  -- r is the answer to question 1
+  module _ (k : Kind) (s : Box) (c : Command) (r : Bool) (e : r ≡ valid γ (s .memory)) where
+    pub invalid-refused : not r ≡ true → 1 ≡ firstNo (questionsTo γ k s c)
+    invalid-refused h = says-no 1 (question1 γ (s .memory)) (form γ k s c ++ rest γ k s c) r refl e h
 
-  -- n is the number that the next five gave
-  module _ (v : not r ≡ false) (n : ℕ) (en : n ≡ firstNo (form k s c)) where
-    pub form-refused : (n ≡ 0 → ⊥) → n ≡ firstNo (questionsTo k s c)
-    form-refused h =
-        en
-        ∙ sym (ends (form k s c) (rest k s c) (λ z. h (en ∙ z)))
-        ∙ goes-on (question1 (s .memory)) (form k s c ++ rest k s c) r e v
+    -- n is the number that the next five gave
+    module _ (v : not r ≡ false) (n : ℕ) (en : n ≡ firstNo (form γ k s c)) where
+      pub form-refused : (n ≡ 0 → ⊥) → n ≡ firstNo (questionsTo γ k s c)
+      form-refused h =
+          en
+          ∙ sym (ends (form γ k s c) (rest γ k s c) (λ z. h (en ∙ z)))
+          ∙ goes-on (question1 γ (s .memory)) (form γ k s c ++ rest γ k s c) r e v
 
-    pub formed : n ≡ 0 → Formed k s c
-    formed z =
-        record {
-          memory = sym e ∙ eq-true-of-not-eq-false' v;
-          yes-form = accepted-yes 6 (form k s c) (form-numbered k s c) (sym en ∙ z);
-        }
+      pub formed : n ≡ 0 → Formed γ k s c
+      formed z =
+          record {
+            memory = sym e ∙ eq-true-of-not-eq-false' v;
+            yes-form = accepted-yes 6 (form γ k s c) (form-numbered k s c) (sym en ∙ z);
+          }
 
--- ---- what is left, by kind
+  -- ---- what is left, by kind
 
-module _ (k : Kind) (s : Box) (c : Command) (h : Formed k s c) where
-  to-rest : (j : Kind) → k ≡ j → firstNo (rest j s c) ≡ firstNo (questionsTo k s c)
-  to-rest j ej =
-      ap (λ (i : Kind). firstNo (rest i s c)) (sym ej)
-      ∙ sym (passes-on (question1 (s .memory) ∷ form k s c) (rest k s c) (h .memory, h .yes-form))
+  module _ (k : Kind) (s : Box) (c : Command) (h : Formed γ k s c) where
+    to-rest : (j : Kind) → k ≡ j → firstNo (rest γ j s c) ≡ firstNo (questionsTo γ k s c)
+    to-rest j ej =
+        ap (λ (i : Kind). firstNo (rest γ i s c)) (sym ej)
+        ∙ sym (passes-on (question1 γ (s .memory) ∷ form γ k s c) (rest γ k s c) (h .memory, h .yes-form))
 
-  pub nothing-left : (j : Kind) → k ≡ j → firstNo (rest j s c) ≡ 0 → 0 ≡ firstNo (questionsTo k s c)
-  nothing-left j ej none = sym none ∙ to-rest j ej
+    pub nothing-left : (j : Kind) → k ≡ j → firstNo (rest γ j s c) ≡ 0 → 0 ≡ firstNo (questionsTo γ k s c)
+    nothing-left j ej none = sym none ∙ to-rest j ej
 
-  pub salt-left : (n : ℕ) → k ≡ NewSalt → n ≡ firstNo (question11 NewSalt (s .memory) (c .content) ∷ []) → n ≡ firstNo (questionsTo k s c)
-  unfolding firstNo
-  salt-left n ej en = en ∙ to-rest NewSalt ej
+    pub salt-left : (n : ℕ) → k ≡ NewSalt → n ≡ firstNo (question11 γ NewSalt (s .memory) (c .content) ∷ []) → n ≡ firstNo (questionsTo γ k s c)
+    unfolding firstNo
+    salt-left n ej en = en ∙ to-rest NewSalt ej
 
-  module _ (u : Update) (ej : k ≡ Change u) where
-    pub change-left : (n : ℕ) → n ≡ firstNo (changeQuestions u (s .memory) (c .block) (c .now) (c .proof)) → n ≡ firstNo (questionsTo k s c)
-    change-left n en =
-        en ∙ sym (not-put-last (changeQuestions u (s .memory) (c .block) (c .now) (c .proof))) ∙ to-rest (Change u) ej
+    module _ (u : Update) (ej : k ≡ Change u) where
+      pub change-left : (n : ℕ) → n ≡ firstNo (changeQuestions γ u (s .memory) (c .block) (c .now) (c .proof)) → n ≡ firstNo (questionsTo γ k s c)
+      change-left n en =
+          en ∙ sym (not-put-last (changeQuestions γ u (s .memory) (c .block) (c .now) (c .proof))) ∙ to-rest (Change u) ej
 
-    change-form : AllYes (form (Change u) s c)
-    change-form = subst (λ (i : Kind). AllYes (form i s c)) ej (h .yes-form)
+      change-form : AllYes (form γ (Change u) s c)
+      change-form = subst (λ (i : Kind). AllYes (form γ i s c)) ej (h .yes-form)
 
-    pub change-group : groupOf (c .block) < mostGroups
-    change-group =
-        let blocks = dataBlocks (groups (s .memory)) in
-        let below = groupOf-below (groups (s .memory)) (c .block) (ltb-true (c .block) blocks (change-form .1 .1 .1 .0)) in
-        omega (arith, below, facts (s .memory) (h .memory) .most)
+      pub change-group : groupOf γ (c .block) < γ .mostGroups
+      change-group =
+          let blocks = dataBlocks γ (groups γ (s .memory)) in
+          let below = groupOf-below σ (groups γ (s .memory)) (c .block) (ltb-true (c .block) blocks (change-form .1 .1 .1 .0)) in
+          omega (arith, below, facts σ (s .memory) (h .memory) .most)
 
-    pub change-early : c .now ≤ latestTime
-    change-early =
-        leb-true (c .now) latestTime
-        (and-elim-right (leb (lastTime (s .memory)) (c .now)) (leb (c .now) latestTime) (change-form .1 .1 .0))
+      pub change-early : c .now ≤ latestTime
+      change-early =
+          leb-true (c .now) latestTime
+          (and-elim-right (leb (lastTime γ (s .memory)) (c .now)) (leb (c .now) latestTime) (change-form .1 .1 .0))
 
-    pub change-proof : length (c .proof) ≡ proofSize
-    change-proof =
-        let content = eqb (length (c .content)) (contentLength (Change u)) in
-        let proof = eqb (length (c .proof)) proofSize in
-        let answer = eqb (length (c .answer)) answerSize in
-        eqb-true (length (c .proof)) proofSize
-        (and-elim-left proof answer (and-elim-right content (proof && answer) (change-form .1 .1 .1 .1 .0)))
+      pub change-proof : length (c .proof) ≡ proofSize γ
+      change-proof =
+          let content = eqb (length (c .content)) (contentLength γ (Change u)) in
+          let proof = eqb (length (c .proof)) (proofSize γ) in
+          let answer = eqb (length (c .answer)) (answerSize γ) in
+          eqb-true (length (c .proof)) (proofSize γ)
+          (and-elim-left proof answer (and-elim-right content (proof && answer) (change-form .1 .1 .1 .1 .0)))

@@ -3,10 +3,11 @@ ghost use mathlib.Core.Path.{_≡_};
 ghost use Prim.Native.Nat.{_<_, _≤_};
 ghost use lib.ListN.{length};
 ghost use lib.Dec.{ltb};
+ghost use Rattle.lockpage.specs.Geometry.{present};
 ghost use Rattle.lockpage.specs.Page.{entryAt};
 ghost use Rattle.lockpage.specs.Update.{latestTime};
 ghost use Rattle.addressing.specs.Map.{groupOf, placeOf};
-ghost use Rattle.memory.specs.Layout.{memorySize, mostGroups};
+ghost use Rattle.memory.specs.Layout.{memorySize};
 ghost use Rattle.memory.specs.Memory.{count};
 ghost use Rattle.validity.specs.Valid.{countLimit};
 ghost use Rattle.machine.specs.Command.{proofSize, broughtPage};
@@ -19,7 +20,7 @@ use lockpage::updates;
 
 // Question 8.
 fn is_unspent(memory: &[u8], group: u32) -> bool
-    requires { ⌜ (length (now memory) ≡ memorySize) × (group < mostGroups) ⌝ }
+    requires { ⌜ (length (now memory) ≡ memorySize present) × (group < present .mostGroups) ⌝ }
     ensures { λ r. ⌜ r ≡ ltb (count (now (memory .entry)) group) countLimit ⌝ }
 {
     memory::count(memory, group) < validity::COUNT_LIMIT
@@ -27,8 +28,8 @@ fn is_unspent(memory: &[u8], group: u32) -> bool
 
 // The block's entry on the page brought.
 fn brought_entry(proof: &[u8], block: u32) -> Entry
-    requires { ⌜ length (now proof) ≡ proofSize ⌝ }
-    ensures { λ r. ⌜ r ≡ entryAt (broughtPage (now (proof .entry))) (placeOf block) ⌝ }
+    requires { ⌜ length (now proof) ≡ proofSize present ⌝ }
+    ensures { λ r. ⌜ r ≡ entryAt (broughtPage present (now (proof .entry))) (placeOf present block) ⌝ }
 {
     let place = addressing::place_of(block);
     lockpage::entries::load_entry(&proof[0..lockpage::PAGE_SIZE], place)
@@ -36,8 +37,8 @@ fn brought_entry(proof: &[u8], block: u32) -> Entry
 
 // The number of the first of them that says no, or 0. One tag is made; the others cost a few comparisons.
 pub(crate) fn refusal(memory: &[u8], u: Update, block: u32, time: u32, proof: &[u8]) -> u32
-    requires { ⌜ (length (now memory) ≡ memorySize) × ((groupOf block < mostGroups) × ((length (now proof) ≡ proofSize) × (time ≤ latestTime))) ⌝ }
-    ensures { λ r. ⌜ r ≡ firstNo (changeQuestions u (now (memory .entry)) block time (now (proof .entry))) ⌝ }
+    requires { ⌜ (length (now memory) ≡ memorySize present) × ((groupOf present block < present .mostGroups) × ((length (now proof) ≡ proofSize present) × (time ≤ latestTime))) ⌝ }
+    ensures { λ r. ⌜ r ≡ firstNo (changeQuestions present u (now (memory .entry)) block time (now (proof .entry))) ⌝ }
 {
     let group = addressing::group_of(block);
     let e = brought_entry(proof, block);

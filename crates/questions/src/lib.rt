@@ -5,6 +5,7 @@ mod change;
 ghost use mathlib.Core.Path.{_≡_};
 ghost use mathlib.Core.List.{[], _∷_};
 ghost use lib.ListN.{length};
+ghost use Rattle.lockpage.specs.Geometry.{present};
 ghost use Rattle.memory.specs.Layout.{memorySize};
 ghost use Rattle.machine.specs.Command.{boxOf, commandOf};
 ghost use Rattle.machine.specs.Question.{question11, questionsTo, firstNo};
@@ -12,8 +13,8 @@ use machine::Kind;
 
 // Question 11, as it is put to a new salt: its number where it says no, or 0.
 fn salt_refusal(memory: &[u8], content: &[u8]) -> u32
-    requires { ⌜ length (now memory) ≡ memorySize ⌝ }
-    ensures { λ r. ⌜ r ≡ firstNo (question11 Kind.NewSalt (now (memory .entry)) (now (content .entry)) ∷ []) ⌝ }
+    requires { ⌜ length (now memory) ≡ memorySize present ⌝ }
+    ensures { λ r. ⌜ r ≡ firstNo (question11 present Kind.NewSalt (now (memory .entry)) (now (content .entry)) ∷ []) ⌝ }
 {
     if memory::has_salt(memory, content) {
         return machine::SALT_UNCHANGED;
@@ -33,7 +34,7 @@ pub fn refusal(
     proof: &[u8],
     answer: &[u8],
 ) -> u32
-    ensures { λ r. ⌜ r ≡ firstNo (questionsTo k (boxOf (now (memory .entry)) (now (disk .entry))) (commandOf 0 block time 0 (now (content .entry)) (now (proof .entry)) (now (answer .entry)))) ⌝ }
+    ensures { λ r. ⌜ r ≡ firstNo (questionsTo present k (boxOf (now (memory .entry)) (now (disk .entry))) (commandOf 0 block time 0 (now (content .entry)) (now (proof .entry)) (now (answer .entry)))) ⌝ }
 {
     if !validity::valid(memory) {
         return machine::MEMORY_INVALID;

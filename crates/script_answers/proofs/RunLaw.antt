@@ -13,9 +13,11 @@ use Rattle.octets.specs.Part.{part, repeated}
 use Rattle.octets.specs.Number.{numberAt}
 use Rattle.octets.specs.Signed.{signed}
 use Rattle.octets.proofs.RepeatedLaw.{repeated-length, repeated-part}
+use Rattle.lockpage.specs.Geometry.{present}
 use Rattle.lockpage.specs.Size.{blockSize, entrySize}
 use Rattle.lockpage.specs.State.{timeLeftSize}
 use Rattle.lockpage.specs.declared.Update.the-variants.{Write, Unfreeze, Increment}
+use Rattle.lockpage.proofs.GeometryLaw.{present-proper as σ}
 use Rattle.memory.specs.Memory.{lastTime}
 use Rattle.machine.specs.declared.Kind.{Kind}
 use Rattle.machine.specs.declared.Kind.the-variants.{Read, Entry, Page, Change, Sync, Restart, NewSalt, Identify, Unknown}
@@ -61,29 +63,29 @@ module _ (kind n : ℕ) (m disk a : List ℕ) (o : Outcome) (e : outcomeOf n m d
 -- ---- the page
 
 -- t is the last time
-pub page-got : (m disk after room memory page : List ℕ) (t n : ℕ) → t ≡ lastTime m → room ≡ buffer
-    → outcomeOf n memory after page ≡ step (boxOf m disk) (commandOf 3 0 t 0 [] [] room)
+pub page-got : (m disk after room memory page : List ℕ) (t n : ℕ) → t ≡ lastTime present m → room ≡ buffer
+    → outcomeOf n memory after page ≡ step present (boxOf m disk) (commandOf 3 0 t 0 [] [] room)
     → (boxOf memory after ≡ pageGot (boxOf m disk) .box) × (page ≡ pageGot (boxOf m disk) .answer)
 unfolding pageGot
 page-got m disk after room memory page t n et er e =
-    let got = e ∙ ap₂ (λ (x : ℕ) (y : List ℕ). step (boxOf m disk) (commandOf 3 0 x 0 [] [] y)) et er in
+    let got = e ∙ ap₂ (λ (x : ℕ) (y : List ℕ). step present (boxOf m disk) (commandOf 3 0 x 0 [] [] y)) et er in
     (ap (λ (o : Outcome). o .box) got, ap (λ (o : Outcome). o .answer) got)
 
 -- the room for it is filled or left as it was
-page-size : (s : Box) → answerSize ≡ length (pageGot s .answer)
+page-size : (s : Box) → answerSize present ≡ length (pageGot s .answer)
 unfolding pageGot buffer
 page-size s =
-    let c : Command = commandOf 3 0 (lastTime (s .memory)) 0 [] [] buffer in
+    let c : Command = commandOf 3 0 (lastTime present (s .memory)) 0 [] [] buffer in
     sym
-    (same-or-not (refusal s c) 0 (λ r. answer-length s c r)
-    (λ h. ap length (refused-unaltered s c h .answer) ∙ repeated-length answerSize 0))
+    (same-or-not (refusal present s c) 0 (λ r. answer-length σ s c r)
+    (λ h. ap length (refused-unaltered σ s c h .answer) ∙ repeated-length (answerSize present) 0))
 
-pub got-size : (s : Box) (page : List ℕ) → page ≡ pageGot s .answer → answerSize ≡ length page
+pub got-size : (s : Box) (page : List ℕ) → page ≡ pageGot s .answer → answerSize present ≡ length page
 got-size s page e = page-size s ∙ ap length (sym e)
 
 -- ---- what a kind brings
 
-content-within : (k : Kind) → contentLength k ≤ blockSize
+content-within : (k : Kind) → contentLength present k ≤ blockSize present
 content-within Read = omega arith
 content-within Entry = omega arith
 content-within Page = omega arith
@@ -96,34 +98,34 @@ content-within NewSalt = omega arith
 content-within Identify = omega arith
 content-within Unknown = omega arith
 
-pub within : (k : Kind) (n : ℕ) → n ≡ contentLength k → n ≤ blockSize
+pub within : (k : Kind) (n : ℕ) → n ≡ contentLength present k → n ≤ blockSize present
 within k n e = omega (arith, content-within k)
 
 -- the first n of the room for the data
-pub content-of : (n b : ℕ) → n ≤ blockSize → take n (replicate blockSize b) ≡ repeated n b
+pub content-of : (n b : ℕ) → n ≤ blockSize present → take n (replicate (blockSize present) b) ≡ repeated n b
 unfolding repeated part
-content-of n b h = repeated-part blockSize b 0 n (omega arith)
+content-of n b h = repeated-part (blockSize present) b 0 n (omega arith)
 
-pub content-size : (n b : ℕ) → n ≤ blockSize → n ≡ length (take n (replicate blockSize b))
+pub content-size : (n b : ℕ) → n ≤ blockSize present → n ≡ length (take n (replicate (blockSize present) b))
 content-size n b h = sym (ap length (content-of n b h) ∙ repeated-length n b)
 
 -- ---- the line
 
 module _ (m disk : List ℕ) (v : Values) (k : Kind) (n p : ℕ) (content : List ℕ) (ek : k ≡ kindNumbered (v .kind) (v .value))
-    (en : n ≡ contentLength k) (ep : p ≡ proofLength k) (ec : content ≡ repeated n (v .value % 256)) where
+    (en : n ≡ contentLength present k) (ep : p ≡ proofLength present k) (ec : content ≡ repeated n (v .value % 256)) where
   abbrev box : Box
   box = boxOf m disk
 
   abbrev given : Box → List ℕ → List ℕ → Outcome
-  given s x proof = step s (commandOf (v .kind) (v .block) (v .time) (v .value) x proof buffer)
+  given s x proof = step present s (commandOf (v .kind) (v .block) (v .time) (v .value) x proof buffer)
 
   ran-by : (b : Bool) → eqb p 0 ≡ b
       → ran box v ≡ elim b [ true ↦ given box content [] | false ↦ given (pageGot box .box) content (pageGot box .answer) ]
   unfolding ran
   ran-by b t =
       ap₂ (λ (x : Bool) (l : List ℕ). elim x [ true ↦ given box l [] | false ↦ given (pageGot box .box) l (pageGot box .answer) ])
-      (ap (λ (i : ℕ). eqb i 0) (sym (ep ∙ ap (λ (j : Kind). proofLength j) ek)) ∙ t)
-      (sym (ec ∙ ap (λ (i : ℕ). repeated i (v .value % 256)) (en ∙ ap (λ (j : Kind). contentLength j) ek)))
+      (ap (λ (i : ℕ). eqb i 0) (sym (ep ∙ ap (λ (j : Kind). proofLength present j) ek)) ∙ t)
+      (sym (ec ∙ ap (λ (i : ℕ). repeated i (v .value % 256)) (en ∙ ap (λ (j : Kind). contentLength present j) ek)))
 
   pub ran-plain : p ≡ 0 → (r : Ran) → r ≡ ranWith (v .kind) (given box content []) → r ≡ ranLine box v
   ran-plain h r e = e ∙ ap (λ (x : Outcome). ranWith (v .kind) x) (sym (ran-by true (eq-eqb p 0 h)))

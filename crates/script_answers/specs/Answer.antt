@@ -8,6 +8,7 @@ use lib.IntN.{pos}
 use Rattle.octets.specs.Part.{repeated}
 use Rattle.octets.specs.Number.{numberAt}
 use Rattle.octets.specs.Signed.{signed}
+use Rattle.lockpage.specs.Geometry.{present}
 use Rattle.lockpage.specs.Size.{entrySize}
 use Rattle.lockpage.specs.State.{timeLeftSize}
 use Rattle.memory.specs.Memory.{lastTime}
@@ -24,14 +25,14 @@ use Rattle.script_answers.specs.declared.Shown.{Shown}
 
 -- every command gets an answer buffer of zeros
 unfoldable pub buffer : List ℕ
-buffer = repeated answerSize 0
+buffer = repeated (answerSize present) 0
 
 abbrev pub kindOf : Values → Kind
 kindOf v = kindNumbered (v .kind) (v .value)
 
 -- "Write data are 512 bytes, new salt 32, of value mod 256": as many as the kind brings
 abbrev pub contentOf : Values → List ℕ
-contentOf v = repeated (contentLength (kindOf v)) (v .value % 256)
+contentOf v = repeated (contentLength present (kindOf v)) (v .value % 256)
 
 -- the command of a line, with the page and tag that it brings
 abbrev pub commandFor : Values → List ℕ → Command
@@ -39,14 +40,14 @@ commandFor v proof = commandOf (v .kind) (v .block) (v .time) (v .value) (conten
 
 -- "it gets page 0 by kind 3 at the last time"
 unfoldable pub pageGot : Box → Outcome
-pageGot s = step s (commandOf 3 0 (lastTime (s .memory)) 0 [] [] buffer)
+pageGot s = step present s (commandOf 3 0 (lastTime present (s .memory)) 0 [] [] buffer)
 
 -- "Before kinds 4 to 6", which are those that bring a proof
 unfoldable pub ran : Box → Values → Outcome
 ran s v =
-    elim (eqb (proofLength (kindOf v)) 0) [
-      | true ↦ step s (commandFor v [])
-      | false ↦ step (pageGot s .box) (commandFor v (pageGot s .answer))
+    elim (eqb (proofLength present (kindOf v)) 0) [
+      | true ↦ step present s (commandFor v [])
+      | false ↦ step present (pageGot s .box) (commandFor v (pageGot s .answer))
     ]
 
 -- ---- the line printed

@@ -2,6 +2,7 @@
 pub mod printing;
 
 ghost use mathlib.Core.Path.{_≡_};
+ghost use Rattle.lockpage.specs.Geometry.{present};
 ghost use Rattle.machine.specs.Command.{boxOf, commandOf};
 ghost use Rattle.machine.specs.Step.{step};
 ghost use Rattle.script_answers.specs.Answer.{buffer, pageGot, ranOf, ranWith, ranLine};
@@ -34,7 +35,7 @@ fn send(
     content: &[u8],
     proof: &[u8],
 ) -> Shown
-    ensures { λ r. ⌜ ranOf (now (memory .exit)) (now (disk .exit)) r ≡ ranWith (v .kind) (step (boxOf (now (memory .entry)) (now (disk .entry))) (commandOf (v .kind) (v .block) (v .time) (v .value) (now (content .entry)) (now (proof .entry)) buffer)) ⌝ }
+    ensures { λ r. ⌜ ranOf (now (memory .exit)) (now (disk .exit)) r ≡ ranWith (v .kind) (step present (boxOf (now (memory .entry)) (now (disk .entry))) (commandOf (v .kind) (v .block) (v .time) (v .value) (now (content .entry)) (now (proof .entry)) buffer)) ⌝ }
 {
     let mut answer = [0u8; ANSWER_SIZE];
     let number = controller::command(

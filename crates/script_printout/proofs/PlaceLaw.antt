@@ -7,6 +7,7 @@ use native.Mathlib.Omega.{arith}
 use lib.ListN.{length}
 use Rattle.octets.specs.Part.{repeated, replaced}
 use Rattle.octets.proofs.ReplacedLaw.{replaced-none}
+use Rattle.lockpage.specs.Geometry.{present}
 use Rattle.machine.specs.Command.{Box, boxOf}
 use Rattle.machine.specs.Format.{Formatting, formattingOf, format}
 use Rattle.memory.specs.Layout.{saltSize}
@@ -95,7 +96,8 @@ prints-line number line v s memory disk shown out at p after j e r w =
 
 -- ---- formatting
 
-pub formatted-by : (memory disk memory' disk' : List ℕ) (number : ℕ) → formattingOf number memory' disk' ≡ format (boxOf memory disk) 1 (repeated saltSize 0)
+pub formatted-by : (memory disk memory' disk' : List ℕ) (number : ℕ)
+    → formattingOf number memory' disk' ≡ format present (boxOf memory disk) 1 (repeated saltSize 0)
     → boxOf memory' disk' ≡ formatted (boxOf memory disk)
 unfolding formatted
 formatted-by memory disk memory' disk' number e = ap (λ (f : Formatting). f .box) e

@@ -4,6 +4,7 @@ use mathlib.Core.Bool.{true, false}
 use mathlib.Core.List.{List, [], _∷_, _++_}
 use Prim.Native.Nat.{ℕ, suc}
 use Rattle.octets.specs.Part.{repeated, equal}
+use Rattle.lockpage.specs.Geometry.{present}
 use Rattle.addressing.specs.Map.{diskSize}
 use Rattle.memory.specs.Layout.{memorySize, saltSize}
 use Rattle.machine.specs.Command.{Box, boxOf}
@@ -38,10 +39,10 @@ badLine n = bad ++ (decimal n ++ (newline ∷ []))
 
 -- "The program formats one group with a zero salt": memory and disk before
 abbrev pub blankBox : Box
-blankBox = boxOf (repeated memorySize 0) (repeated (diskSize 1) 0)
+blankBox = boxOf (repeated (memorySize present) 0) (repeated (diskSize present 1) 0)
 
 unfoldable pub formatted : Box → Box
-formatted s = format s 1 (repeated saltSize 0) .box
+formatted s = format present s 1 (repeated saltSize 0) .box
 
 -- lines of values, from number n on: each is run on the box that the one before left. "A line not of this form prints `bad line N` ..
 -- and ends the run"

@@ -1,6 +1,7 @@
 // The functions that a C service calls. A slice crosses as a pointer and a length. No call has a precondition, and each
 // contract fixes the number answered and every byte of each buffer, by specs/.
 ghost use mathlib.Core.Path.{_≡_};
+ghost use Rattle.lockpage.specs.Geometry.{present};
 ghost use Rattle.machine.specs.Command.{boxOf, commandOf, outcomeOf};
 ghost use Rattle.machine.specs.Step.{step};
 ghost use Rattle.machine.specs.Format.{formattingOf, format};
@@ -37,7 +38,7 @@ pub extern "C" fn sockjade_command(
     proof: &[u8],
     answer: &mut [u8],
 ) -> u32
-    ensures { λ r. ⌜ outcomeOf r (now (memory .exit)) (now (disk .exit)) (now (answer .exit)) ≡ step (boxOf (now (memory .entry)) (now (disk .entry))) (commandOf kind block time value (now (content .entry)) (now (proof .entry)) (now (answer .entry))) ⌝ }
+    ensures { λ r. ⌜ outcomeOf r (now (memory .exit)) (now (disk .exit)) (now (answer .exit)) ≡ step present (boxOf (now (memory .entry)) (now (disk .entry))) (commandOf kind block time value (now (content .entry)) (now (proof .entry)) (now (answer .entry))) ⌝ }
 {
     controller::command(
         memory,
@@ -60,7 +61,7 @@ pub extern "C" fn sockjade_format(
     groups: u32,
     salt: &[u8],
 ) -> u32
-    ensures { λ r. ⌜ formattingOf r (now (memory .exit)) (now (disk .exit)) ≡ format (boxOf (now (memory .entry)) (now (disk .entry))) groups (now (salt .entry)) ⌝ }
+    ensures { λ r. ⌜ formattingOf r (now (memory .exit)) (now (disk .exit)) ≡ format present (boxOf (now (memory .entry)) (now (disk .entry))) groups (now (salt .entry)) ⌝ }
 {
     controller::format(memory, disk, groups, salt)
 }

@@ -4,31 +4,34 @@ use mathlib.Core.Path.{_≡_}
 use mathlib.Core.Bool.{true}
 use mathlib.Core.List.{List}
 use lib.ListN.{length}
+use Rattle.lockpage.specs.Geometry.{Geometry}
 use Rattle.lockpage.specs.Size.{pageSize}
 use Rattle.lockpage.specs.Update.{latestTime}
-use Rattle.memory.specs.Layout.{saltSize, countSize, mostGroups}
+use Rattle.memory.specs.Layout.{saltSize, countSize}
 use Rattle.memory.specs.Memory.{count, groups, held, none, withSalt, withCount, withNoCounts, withLastTime, holding, holdingNone, formatted}
 use Rattle.validity.specs.Valid.{countLimit, valid}
 
--- a change of a valid memory, as a command makes it, leaves it valid
-pub record Keeps (m : List ℕ) : Type 0 where
-  pub salt-set : (s : List ℕ) → length s ≡ saltSize → valid (withSalt m s) ≡ true
-  pub time-set : (t : ℕ) → t ≤ latestTime → valid (withLastTime m t) ≡ true
-  -- the count of a group of the box; a held group's stays 1 to the limit
-  pub count-set : (g n : ℕ) → g < groups m → n < 256 ^ countSize → (held m ≡ g → (1 ≤ n) × (n ≤ countLimit))
-      → valid (withCount m g n) ≡ true
-  pub counts-cleared : held m ≡ none → valid (withNoCounts m) ≡ true
-  pub page-held : (g : ℕ) (p : List ℕ) → g < groups m → 1 ≤ count m g → count m g ≤ countLimit → length p ≡ pageSize
-      → valid (holding m g p) ≡ true
-  pub page-dropped : valid (holdingNone m) ≡ true
+-- γ is the box's geometry
+module _ (γ : Geometry) where
+  -- a change of a valid memory, as a command makes it, leaves it valid
+  pub record Keeps (m : List ℕ) : Type 0 where
+    pub salt-set : (s : List ℕ) → length s ≡ saltSize → valid γ (withSalt m s) ≡ true
+    pub time-set : (t : ℕ) → t ≤ latestTime → valid γ (withLastTime γ m t) ≡ true
+    -- the count of a group of the box; a held group's stays 1 to the limit
+    pub count-set : (g n : ℕ) → g < groups γ m → n < 256 ^ countSize → (held γ m ≡ g → (1 ≤ n) × (n ≤ countLimit))
+        → valid γ (withCount m g n) ≡ true
+    pub counts-cleared : held γ m ≡ none → valid γ (withNoCounts γ m) ≡ true
+    pub page-held : (g : ℕ) (p : List ℕ) → g < groups γ m → 1 ≤ count m g → count m g ≤ countLimit → length p ≡ pageSize γ
+        → valid γ (holding γ m g p) ≡ true
+    pub page-dropped : valid γ (holdingNone γ m) ≡ true
 
-unfoldable pub StaysValid : Type 0
-StaysValid = (m : List ℕ) → valid m ≡ true → Keeps m
+  unfoldable pub StaysValid : Type 0
+  StaysValid = (m : List ℕ) → valid γ m ≡ true → Keeps m
 
--- the memory of formatting is valid
-unfoldable pub FormattedIsValid : Type 0
-FormattedIsValid = (g : ℕ) (s : List ℕ) → 1 ≤ g → g ≤ mostGroups → length s ≡ saltSize → valid (formatted g s) ≡ true
+  -- the memory of formatting is valid
+  unfoldable pub FormattedIsValid : Type 0
+  FormattedIsValid = (g : ℕ) (s : List ℕ) → 1 ≤ g → g ≤ γ .mostGroups → length s ≡ saltSize → valid γ (formatted γ g s) ≡ true
 
--- "counts of groups from G on .. are 0"
-unfoldable pub UnusedCounts : Type 0
-UnusedCounts = (m : List ℕ) (g : ℕ) → valid m ≡ true → groups m ≤ g → g < mostGroups → count m g ≡ 0
+  -- "counts of groups from G on .. are 0"
+  unfoldable pub UnusedCounts : Type 0
+  UnusedCounts = (m : List ℕ) (g : ℕ) → valid γ m ≡ true → groups γ m ≤ g → g < γ .mostGroups → count m g ≡ 0

@@ -6,9 +6,10 @@ use mathlib.Core.List.{List, [], _∷_}
 use lib.ListN.{length}
 use lib.Dec.{eqb, ltb, leb}
 use Rattle.octets.specs.Part.{part, repeated, equal}
+use Rattle.lockpage.specs.Geometry.{Geometry}
 use Rattle.lockpage.specs.Size.{pageSize}
 use Rattle.lockpage.specs.Update.{latestTime}
-use Rattle.memory.specs.Layout.{memorySize, mostGroups, countStart, timeStart, reservedStart, reservedSize}
+use Rattle.memory.specs.Layout.{memorySize, countStart, timeStart, reservedStart, reservedSize}
 use Rattle.memory.specs.Memory.{count, lastTime, groups, held, none, heldPage}
 
 -- "a held group's count is 1 to 4,294,967,294"; question 8 asks for a count below it
@@ -19,28 +20,30 @@ countLimit = 4294967294
 abbrev pub zeroAt : List ℕ → ℕ → ℕ → Bool
 zeroAt m at n = equal (part m at n) (repeated n 0)
 
-abbrev pub noneHeld : List ℕ → Bool
-noneHeld m = eqb (held m) none
-
 -- every one is true
 unfoldable pub every : List Bool → Bool
 every [] = true
 every (b ∷ bs) = b && every bs
 
--- clause by clause: 616 bytes; "G is 1 to 16; the held group is 255 or below G; the last time is at most 2,147,483,647; counts of
--- groups from G on and bytes 102 and 103 are 0; a held group's count is 1 to 4,294,967,294; and with 255 the held page is 512 zero
--- bytes"
-unfoldable pub valid : List ℕ → Bool
-valid m =
-    every
-    (eqb (length m) memorySize
-    ∷ leb 1 (groups m)
-    ∷ leb (groups m) mostGroups
-    ∷ (noneHeld m || ltb (held m) (groups m))
-    ∷ leb (lastTime m) latestTime
-    ∷ zeroAt m (countStart (groups m)) (timeStart - countStart (groups m))
-    ∷ zeroAt m reservedStart reservedSize
-    ∷ (noneHeld m || leb 1 (count m (held m)))
-    ∷ (noneHeld m || leb (count m (held m)) countLimit)
-    ∷ (not (noneHeld m) || equal (heldPage m) (repeated pageSize 0))
-    ∷ [])
+-- γ is the box's geometry; the numbers quoted are those at base
+module _ (γ : Geometry) where
+  abbrev pub noneHeld : List ℕ → Bool
+  noneHeld m = eqb (held γ m) none
+
+  -- clause by clause: 616 bytes; "G is 1 to 16; the held group is 255 or below G; the last time is at most 2,147,483,647; counts of
+  -- groups from G on and bytes 102 and 103 are 0; a held group's count is 1 to 4,294,967,294; and with 255 the held page is 512 zero
+  -- bytes"
+  unfoldable pub valid : List ℕ → Bool
+  valid m =
+      every
+      (eqb (length m) (memorySize γ)
+      ∷ leb 1 (groups γ m)
+      ∷ leb (groups γ m) (γ .mostGroups)
+      ∷ (noneHeld m || ltb (held γ m) (groups γ m))
+      ∷ leb (lastTime γ m) latestTime
+      ∷ zeroAt m (countStart (groups γ m)) (timeStart γ - countStart (groups γ m))
+      ∷ zeroAt m (reservedStart γ) reservedSize
+      ∷ (noneHeld m || leb 1 (count m (held γ m)))
+      ∷ (noneHeld m || leb (count m (held γ m)) countLimit)
+      ∷ (not (noneHeld m) || equal (heldPage γ m) (repeated (pageSize γ) 0))
+      ∷ [])

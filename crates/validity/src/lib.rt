@@ -1,5 +1,6 @@
 // The check of a controller memory that comes from outside.
 ghost use mathlib.Core.Path.{_≡_};
+ghost use Rattle.lockpage.specs.Geometry.{present};
 ghost use Rattle.validity.specs.Valid.{valid as isValid};
 use memory::layout;
 
@@ -8,7 +9,7 @@ pub const COUNT_LIMIT: u32 = 4294967294;
 
 // Whether the memory is valid.
 pub fn valid(memory: &[u8]) -> bool
-    ensures { λ r. ⌜ r ≡ isValid (now (memory .entry)) ⌝ }
+    ensures { λ r. ⌜ r ≡ isValid present (now (memory .entry)) ⌝ }
 {
     if memory.len() != layout::MEMORY_SIZE {
         return false;

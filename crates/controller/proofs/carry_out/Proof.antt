@@ -1,6 +1,8 @@
 -- `controller::carry_out` meets its contract, kind by kind: each effect gets what the questions have seen to. Assumes nothing.
 use borrow.Author.Needs.{needs}
 use mathlib.Core.Path.{_≡_}
+use Rattle.lockpage.specs.Geometry.{present}
+use Rattle.lockpage.proofs.GeometryLaw.{present-proper as σ}
 use Rattle.machine.specs.declared.Kind.{Kind}
 use Rattle.machine.specs.declared.Kind.the-variants.{Read, Entry, Page, Change, Sync, Restart, NewSalt, Identify, Unknown}
 use Rattle.machine.specs.Command.{Box, Command, boxOf, commandOf}
@@ -21,15 +23,15 @@ given start =
     commandOf 0 (x .block) (x .time) 0 (x .content .now) (x .proof .now) (x .answer .now)
 
 -- of kind j, each question has yes
-asked : (start : tie.Start) (j : Kind) → start .args .k ≡ j → AllYes (questionsTo j (box start) (given start))
-asked start j e = all-yes (start .args .k) j (box start) (given start) (start .pre) e
+asked : (start : tie.Start) (j : Kind) → start .args .k ≡ j → AllYes (questionsTo present j (box start) (given start))
+asked start j e = all-yes σ (start .args .k) j (box start) (given start) (start .pre) e
 
 read-requires : tie.Need-read-requires
 read-requires c κs =
     let told = c .before .before .before in
     let start = told .before .before .before .before .before .before .before in
     let h = asked start Read (told .enum-told .given .1) in
-    (sound Read (box start) (given start) h, (read-inside (box start) (given start) h, passed Read (box start) (given start) h .answer))
+    (sound σ Read (box start) (given start) h, (read-inside σ (box start) (given start) h, passed σ Read (box start) (given start) h .answer))
 
 read : tie.Need-returns
 unfolding effect
@@ -37,14 +39,14 @@ read c =
     let called = c .before .before .before .before in
     let told = called .before .before .before .before in
     let start = told .before .before .before .before .before .before .before in
-    carried (start .args .k) Read (box start) (given start) (start .args .time) _ (told .enum-told .given .1) (called .read .ensures)
+    carried σ (start .args .k) Read (box start) (given start) (start .args .time) _ (told .enum-told .given .1) (called .read .ensures)
 
 entry-requires : tie.Need-show-entry-requires
 entry-requires c κs =
     let told = c .before .before .before in
     let start = told .before .before .before .before .before .before .before in
     let h = asked start Entry (told .enum-told2 .given .1) in
-    (sound Entry (box start) (given start) h, (entry-inside (box start) (given start) h, passed Entry (box start) (given start) h .answer))
+    (sound σ Entry (box start) (given start) h, (entry-inside σ (box start) (given start) h, passed σ Entry (box start) (given start) h .answer))
 
 entry : tie.Need-returns-2
 unfolding effect
@@ -52,14 +54,14 @@ entry c =
     let called = c .before .before .before .before in
     let told = called .before .before .before .before in
     let start = told .before .before .before .before .before .before .before in
-    carried (start .args .k) Entry (box start) (given start) (start .args .time) _ (told .enum-told2 .given .1) (called .show-entry .ensures)
+    carried σ (start .args .k) Entry (box start) (given start) (start .args .time) _ (told .enum-told2 .given .1) (called .show-entry .ensures)
 
 page-requires : tie.Need-show-page-requires
 page-requires c κs =
     let told = c .before .before .before in
     let start = told .before .before .before .before .before .before .before in
     let h = asked start Page (told .enum-told3 .given .1) in
-    (sound Page (box start) (given start) h, (page-inside (box start) (given start) h, passed Page (box start) (given start) h .answer))
+    (sound σ Page (box start) (given start) h, (page-inside σ (box start) (given start) h, passed σ Page (box start) (given start) h .answer))
 
 page : tie.Need-returns-3
 unfolding effect
@@ -67,14 +69,14 @@ page c =
     let called = c .before .before .before .before in
     let told = called .before .before .before .before in
     let start = told .before .before .before .before .before .before .before in
-    carried (start .args .k) Page (box start) (given start) (start .args .time) _ (told .enum-told3 .given .1) (called .show-page .ensures)
+    carried σ (start .args .k) Page (box start) (given start) (start .args .time) _ (told .enum-told3 .given .1) (called .show-page .ensures)
 
 sync-requires : tie.Need-sync-requires
 sync-requires c κs =
     let told = c .before .before .before in
     let start = told .before .before .before .before .before .before .before in
     let h = asked start Sync (told .enum-told4 .given .1) in
-    (sound Sync (box start) (given start) h, (passed Sync (box start) (given start) h .early, passed Sync (box start) (given start) h .answer))
+    (sound σ Sync (box start) (given start) h, (passed σ Sync (box start) (given start) h .early, passed σ Sync (box start) (given start) h .answer))
 
 sync : tie.Need-returns-5
 unfolding effect
@@ -82,14 +84,14 @@ sync c =
     let called = c .before .before .before .before .before .before in
     let told = called .before .before .before .before in
     let start = told .before .before .before .before .before .before .before in
-    carried (start .args .k) Sync (box start) (given start) (start .args .time) _ (told .enum-told4 .given .1) (called .sync .ensures)
+    carried σ (start .args .k) Sync (box start) (given start) (start .args .time) _ (told .enum-told4 .given .1) (called .sync .ensures)
 
 restart-requires : tie.Need-restart-requires
 restart-requires c κs =
     let told = c .before .before in
     let start = told .before .before .before .before .before .before .before in
     let h = asked start Restart (told .enum-told5 .given .1) in
-    (h .0, (passed Restart (box start) (given start) h .early, passed Restart (box start) (given start) h .answer))
+    (h .0, (passed σ Restart (box start) (given start) h .early, passed σ Restart (box start) (given start) h .answer))
 
 restart : tie.Need-returns-6
 unfolding effect
@@ -97,14 +99,14 @@ restart c =
     let called = c .before .before .before .before in
     let told = called .before .before .before in
     let start = told .before .before .before .before .before .before .before in
-    carried (start .args .k) Restart (box start) (given start) (start .args .time) _ (told .enum-told5 .given .1) (called .restart .ensures (start .args .disk .now))
+    carried σ (start .args .k) Restart (box start) (given start) (start .args .time) _ (told .enum-told5 .given .1) (called .restart .ensures (start .args .disk .now))
 
 new-salt-requires : tie.Need-new-salt-requires
 new-salt-requires c κs =
     let told = c .before .before .before in
     let start = told .before .before .before .before .before .before .before in
     let h = asked start NewSalt (told .enum-told6 .given .1) in
-    (sound NewSalt (box start) (given start) h, (passed NewSalt (box start) (given start) h .early, (passed NewSalt (box start) (given start) h .content, passed NewSalt (box start) (given start) h .answer)))
+    (sound σ NewSalt (box start) (given start) h, (passed σ NewSalt (box start) (given start) h .early, (passed σ NewSalt (box start) (given start) h .content, passed σ NewSalt (box start) (given start) h .answer)))
 
 new-salt : tie.Need-returns-7
 unfolding effect
@@ -112,14 +114,14 @@ new-salt c =
     let called = c .before .before .before .before .before .before in
     let told = called .before .before .before .before in
     let start = told .before .before .before .before .before .before .before in
-    carried (start .args .k) NewSalt (box start) (given start) (start .args .time) _ (told .enum-told6 .given .1) (called .new-salt .ensures)
+    carried σ (start .args .k) NewSalt (box start) (given start) (start .args .time) _ (told .enum-told6 .given .1) (called .new-salt .ensures)
 
 identify-requires : tie.Need-identify-requires
 identify-requires c κs =
     let told = c .before .before in
     let start = told .before .before .before .before .before .before .before in
     let h = asked start Identify (told .enum-told7 .given .1) in
-    (passed Identify (box start) (given start) h .memory .size, passed Identify (box start) (given start) h .answer)
+    (passed σ Identify (box start) (given start) h .memory .size, passed σ Identify (box start) (given start) h .answer)
 
 identify : tie.Need-returns-8
 unfolding effect
@@ -127,7 +129,7 @@ identify c =
     let called = c .before .before .before .before in
     let told = called .before .before .before in
     let start = told .before .before .before .before .before .before .before in
-    carried (start .args .k) Identify (box start) (given start) (start .args .time) _ (told .enum-told7 .given .1) (called .identify .ensures (start .args .disk .now))
+    carried σ (start .args .k) Identify (box start) (given start) (start .args .time) _ (told .enum-told7 .given .1) (called .identify .ensures (start .args .disk .now))
 
 change-requires : tie.Need-change-requires
 change-requires c κs =
@@ -135,9 +137,9 @@ change-requires c κs =
     let start = told .before .before .before .before .before .before .before in
     let u = told .k .given .0 .0 in
     let h = asked start (Change u) (told .k .given .1) in
-    let known = passed (Change u) (box start) (given start) h in (
-      sound (Change u) (box start) (given start) h,
-      (changes u (box start) (given start) h .range, (known .content, (may-change u (box start) (given start) h, known .answer))),
+    let known = passed σ (Change u) (box start) (given start) h in (
+      sound σ (Change u) (box start) (given start) h,
+      (changes σ u (box start) (given start) h .range, (known .content, (may-change σ u (box start) (given start) h, known .answer))),
     )
 
 change : tie.Need-returns-4
@@ -146,13 +148,13 @@ change c =
     let called = c .before .before .before .before .before .before in
     let told = called .before .before .before .before .before in
     let start = told .before .before .before .before .before .before .before in
-    carried (start .args .k) (Change (told .k .given .0 .0)) (box start) (given start) (start .args .time) _ (told .k .given .1)
+    carried σ (start .args .k) (Change (told .k .given .0 .0)) (box start) (given start) (start .args .time) _ (told .k .given .1)
     (called .change .ensures)
 
 unknown : tie.Need-returns-9
 unknown c =
     let start = c .before .before .before .before .before .before .before in
-    absurd (unknown-refused (box start) (given start) (asked start Unknown (c .enum-told8 .given .1)))
+    absurd (unknown-refused σ (box start) (given start) (asked start Unknown (c .enum-told8 .given .1)))
 
 pub carry-out-spec : {M : Type 1} → statement M
 carry-out-spec =

@@ -2,6 +2,7 @@
 use borrow.Author.Needs.{needs}
 use mathlib.Core.Path.{sym, _∙_}
 use native.Mathlib.Omega.{arith}
+use Rattle.lockpage.proofs.GeometryLaw.{present-proper as σ}
 use Rattle.controller.proofs.CommandLaw.{command-refused, command-accepted}
 use Rattle.controller.proofs.command.Statement.{statement}
 use Rattle.controller.proofs.command.Tie as tie
@@ -10,7 +11,7 @@ refused : tie.Need-returns
 refused c =
     let found = c .before .before .before .before .before in
     let x = found .before .before .before .before .before .before .args in
-    command-refused (x .memory .now) (x .disk .now) (x .kind) (x .block) (x .time) (x .value) (x .content .now) (x .proof .now) (x .answer .now) _ _
+    command-refused σ (x .memory .now) (x .disk .now) (x .kind) (x .block) (x .time) (x .value) (x .content .now) (x .proof .now) (x .answer .now) _ _
     (found .kind-numbered .ensures) (c .before .refusal .ensures) (c .if1 .taken)
 
 carry-out-requires : tie.Need-carry-out-requires
@@ -24,7 +25,7 @@ accepted c =
     let passed = done .before .before .before .before in
     let found = passed .before .before .before .before .before in
     let x = found .before .before .before .before .before .before .args in
-    command-accepted (x .memory .now) (x .disk .now) (x .kind) (x .block) (x .time) (x .value) (x .content .now) (x .proof .now) (x .answer .now) _ _
+    command-accepted σ (x .memory .now) (x .disk .now) (x .kind) (x .block) (x .time) (x .value) (x .content .now) (x .proof .now) (x .answer .now) _ _
     (found .kind-numbered .ensures) (passed .before .refusal .ensures) _ _ _ (omega (arith, passed .if1 .left)) (done .carry-out .ensures)
 
 pub command-spec : {M : Type 1} → statement M

@@ -3,19 +3,21 @@
 use borrow.Author.Needs.{needs}
 use mathlib.Core.Path.{sym, _∙_}
 use native.Mathlib.Omega.{arith}
+use Rattle.lockpage.specs.Geometry.{present}
+use Rattle.lockpage.proofs.GeometryLaw.{present-proper as σ}
 use Rattle.machine.specs.Command.{boxOf}
 use Rattle.machine.proofs.FormatLaw.{Formattable, formattable, formatting-accepted, formatting-refused}
 use Rattle.controller.proofs.format.Statement.{statement}
 use Rattle.controller.proofs.format.Tie as tie
 
 -- what the questions have seen to
-known : (c : tie.Else1) → Formattable (boxOf (c .before .before .before .before .before .before .before .args .memory .now) (c .before .before .before .before .before .before .before .args .disk .now)) (c .before .before .before .before .before .before .before .args .groups) (c .before .before .before .before .before .before .before .args .salt .now)
-known c = formattable _ _ _ (sym (c .before .refusal .ensures) ∙ omega (arith, c .if1 .left))
+known : (c : tie.Else1) → Formattable present (boxOf (c .before .before .before .before .before .before .before .args .memory .now) (c .before .before .before .before .before .before .before .args .disk .now)) (c .before .before .before .before .before .before .before .args .groups) (c .before .before .before .before .before .before .before .args .salt .now)
+known c = formattable σ _ _ _ (sym (c .before .refusal .ensures) ∙ omega (arith, c .if1 .left))
 
 refused : tie.Need-returns
 refused c =
     let x = c .before .before .before .before .before .before .before .args in
-    formatting-refused (boxOf (x .memory .now) (x .disk .now)) (x .groups) (x .salt .now) _ (c .before .refusal .ensures) (c .if1 .taken)
+    formatting-refused σ (boxOf (x .memory .now) (x .disk .now)) (x .groups) (x .salt .now) _ (c .before .refusal .ensures) (c .if1 .taken)
 
 format-requires : tie.Need-format-requires
 format-requires c κs =
@@ -33,7 +35,7 @@ accepted c =
     let made = stored .before .before .before .before in
     let asked = made .before .before in
     let x = asked .before .before .before .before .before .before .before .args in
-    formatting-accepted (boxOf (x .memory .now) (x .disk .now)) (x .groups) (x .salt .now) _ _
+    formatting-accepted σ (boxOf (x .memory .now) (x .disk .now)) (x .groups) (x .salt .now) _ _
     (sym (asked .before .refusal .ensures) ∙ omega (arith, asked .if1 .left)) (made .format .ensures) (stored .store-blank-pages .ensures)
 
 pub format-spec : {M : Type 1} → statement M

@@ -1,5 +1,6 @@
 -- `held_page::hold` meets its contract, by those of the store and the copy. Assumes nothing.
 use borrow.Author.Needs.{needs}
+use Rattle.lockpage.proofs.GeometryLaw.{present-proper as σ}
 use Rattle.held_page.proofs.PageLaw.{page-stored}
 use Rattle.held_page.proofs.hold.Statement.{statement}
 use Rattle.held_page.proofs.hold.Tie as tie
@@ -9,7 +10,7 @@ returns c =
     let copied = c .before .before in
     let stored = copied .before .before .before .before in
     let start = stored .before .before .before .before in
-    page-stored _ _ _ _ _ (start .pre .1 .1) (stored .store-u8 .ensures) (copied .copy .ensures)
+    page-stored σ _ _ _ _ _ (start .pre .1 .1) (stored .store-u8 .ensures) (copied .copy .ensures)
 
 pub hold-spec : {M : Type 1} → statement M
 hold-spec = tie.close (tie.spec (λ c. search needs) (λ c κs. search needs) (λ c κs. search needs) (λ c. search needs) returns)

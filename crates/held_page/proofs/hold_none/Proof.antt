@@ -1,5 +1,6 @@
 -- `held_page::hold_none` meets its contract: none is stored, and the page's part is lent and comes back zeros. Assumes nothing.
 use borrow.Author.Needs.{needs}
+use Rattle.lockpage.proofs.GeometryLaw.{present-proper as σ}
 use Rattle.held_page.proofs.PageLaw.{page-cleared}
 use Rattle.held_page.proofs.hold_none.Statement.{statement}
 use Rattle.held_page.proofs.hold_none.Tie as tie
@@ -8,7 +9,7 @@ returns : tie.Need-returns
 returns c =
     let cleared = c .before .before in
     let stored = cleared .before .before .before .before in
-    page-cleared _ _ _ (stored .store-u8 .ensures) (cleared .zero-page .ensures)
+    page-cleared σ _ _ _ (stored .store-u8 .ensures) (cleared .zero-page .ensures)
 
 pub hold-none-spec : {M : Type 1} → statement M
 hold-none-spec =

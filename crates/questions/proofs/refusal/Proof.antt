@@ -4,6 +4,8 @@ use mathlib.Core.Path.{_≡_, refl, sym, _∙_}
 use mathlib.Mathlib.Data.Bool.Basic.{eq-true-of-not-eq-false'}
 use native.Mathlib.Omega.{arith}
 use lib.ListN.{length}
+use Rattle.lockpage.specs.Geometry.{present}
+use Rattle.lockpage.proofs.GeometryLaw.{present-proper as σ}
 use Rattle.memory.specs.Layout.{memorySize}
 use Rattle.validity.proofs.ValidLaw.{facts}
 use Rattle.machine.specs.declared.Kind.the-variants.{Read, Entry, Page, Sync, Restart, Identify, Unknown}
@@ -23,69 +25,69 @@ given start =
     commandOf 0 (x .block) (x .time) 0 (x .content .now) (x .proof .now) (x .answer .now)
 
 -- the memory's length, once question 1 has yes
-size : (c : tie.Else1) → length (c .before .before .before .before .before .before .before .args .memory .now) ≡ memorySize
-size c = facts _ (sym (c .before .valid .ensures) ∙ eq-true-of-not-eq-false' (c .if1 .left)) .size
+size : (c : tie.Else1) → length (c .before .before .before .before .before .before .before .args .memory .now) ≡ memorySize present
+size c = facts σ _ (sym (c .before .valid .ensures) ∙ eq-true-of-not-eq-false' (c .if1 .left)) .size
 
 invalid : tie.Need-returns
 invalid c =
     let start = c .before .before .before .before .before .before .before in
-    invalid-refused (start .args .k) (box start) (given start) _ (c .before .valid .ensures) (c .if1 .taken)
+    invalid-refused σ (start .args .k) (box start) (given start) _ (c .before .valid .ensures) (c .if1 .taken)
 
 form : tie.Need-returns-2
 form c =
     let first = c .before .before in
     let start = first .before .before .before .before .before .before .before in
-    form-refused (start .args .k) (box start) (given start) _ (first .before .valid .ensures) (first .if1 .left) _
+    form-refused σ (start .args .k) (box start) (given start) _ (first .before .valid .ensures) (first .if1 .left) _
     (c .before .refusal .ensures) (c .if2 .taken)
 
 -- the first six have yes
-passed : (c : tie.Else2) → Formed (c .before .before .before .before .before .before .before .before .before .args .k) (box (c .before .before .before .before .before .before .before .before .before)) (given (c .before .before .before .before .before .before .before .before .before))
+passed : (c : tie.Else2) → Formed present (c .before .before .before .before .before .before .before .before .before .args .k) (box (c .before .before .before .before .before .before .before .before .before)) (given (c .before .before .before .before .before .before .before .before .before))
 passed c =
     let first = c .before .before in
     let start = first .before .before .before .before .before .before .before in
-    formed (start .args .k) (box start) (given start) _ (first .before .valid .ensures) (first .if1 .left) _ (c .before .refusal .ensures)
+    formed σ (start .args .k) (box start) (given start) _ (first .before .valid .ensures) (first .if1 .left) _ (c .before .refusal .ensures)
     (omega (arith, c .if2 .left))
 
 read : tie.Need-returns-3
 unfolding firstNo
-read c = nothing-left _ _ _ (passed (c .before .before)) Read (c .enum-told .given .1) refl
+read c = nothing-left σ _ _ _ (passed (c .before .before)) Read (c .enum-told .given .1) refl
 
 entry : tie.Need-returns-4
 unfolding firstNo
-entry c = nothing-left _ _ _ (passed (c .before .before)) Entry (c .enum-told2 .given .1) refl
+entry c = nothing-left σ _ _ _ (passed (c .before .before)) Entry (c .enum-told2 .given .1) refl
 
 page : tie.Need-returns-5
 unfolding firstNo
-page c = nothing-left _ _ _ (passed (c .before .before)) Page (c .enum-told3 .given .1) refl
+page c = nothing-left σ _ _ _ (passed (c .before .before)) Page (c .enum-told3 .given .1) refl
 
 sync : tie.Need-returns-7
 unfolding firstNo
-sync c = nothing-left _ _ _ (passed (c .before .before)) Sync (c .enum-told4 .given .1) refl
+sync c = nothing-left σ _ _ _ (passed (c .before .before)) Sync (c .enum-told4 .given .1) refl
 
 restart : tie.Need-returns-8
 unfolding firstNo
-restart c = nothing-left _ _ _ (passed (c .before .before)) Restart (c .enum-told5 .given .1) refl
+restart c = nothing-left σ _ _ _ (passed (c .before .before)) Restart (c .enum-told5 .given .1) refl
 
 identify : tie.Need-returns-10
 unfolding firstNo
-identify c = nothing-left _ _ _ (passed (c .before .before)) Identify (c .enum-told7 .given .1) refl
+identify c = nothing-left σ _ _ _ (passed (c .before .before)) Identify (c .enum-told7 .given .1) refl
 
 unknown : tie.Need-returns-11
 unfolding firstNo
-unknown c = nothing-left _ _ _ (passed (c .before .before)) Unknown (c .enum-told8 .given .1) refl
+unknown c = nothing-left σ _ _ _ (passed (c .before .before)) Unknown (c .enum-told8 .given .1) refl
 
 change-requires : tie.Need-refusal-requires-2
 change-requires c κs =
     let second = c .before .before .before in
     let h = passed second in
     let e = c .before .k .given .1 in
-    (size (second .before .before), (change-group _ _ _ h _ e, (change-proof _ _ _ h _ e, change-early _ _ _ h _ e)))
+    (size (second .before .before), (change-group σ _ _ _ h _ e, (change-proof σ _ _ _ h _ e, change-early σ _ _ _ h _ e)))
 
 change : tie.Need-returns-6
-change c = change-left _ _ _ (passed (c .before .before .before .before)) _ (c .before .before .k .given .1) _ (c .refusal2 .ensures)
+change c = change-left σ _ _ _ (passed (c .before .before .before .before)) _ (c .before .before .k .given .1) _ (c .refusal2 .ensures)
 
 salt : tie.Need-returns-9
-salt c = salt-left _ _ _ (passed (c .before .before .before)) _ (c .before .enum-told6 .given .1) (c .salt-refusal .ensures)
+salt c = salt-left σ _ _ _ (passed (c .before .before .before)) _ (c .before .enum-told6 .given .1) (c .salt-refusal .ensures)
 
 pub refusal-spec : {M : Type 1} → statement M
 refusal-spec =

@@ -5,6 +5,7 @@ use native.Mathlib.Omega.{arith}
 use mir.Syntax.{w64}
 use mir.ValLaws.{toZ-ofZ}
 use Rattle.octets.specs.Part.{repeated}
+use Rattle.lockpage.specs.Geometry.{present}
 use Rattle.machine.specs.Command.{Outcome, boxOf, commandOf}
 use Rattle.machine.specs.Step.{step}
 use Rattle.script_answers.specs.Answer.{buffer}
@@ -16,7 +17,7 @@ use Rattle.script_answers.proofs.send.Tie as tie
 abbrev outcome : tie.Start → Outcome
 outcome start =
     let x = start .args in
-    step (boxOf (x .memory .now) (x .disk .now))
+    step present (boxOf (x .memory .now) (x .disk .now))
     (commandOf (x .v .kind) (x .v .block) (x .v .time) (x .v .value) (x .content .now) (x .proof .now) buffer)
 
 other : tie.Need-returns

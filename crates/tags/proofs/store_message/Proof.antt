@@ -1,6 +1,7 @@
 -- `tags::store_message` meets its contract: the parts are stored one after the other. Assumes nothing.
 use borrow.Author.Needs.{needs}
 use Rattle.octets.proofs.ReplacedLaw.{lent-filled}
+use Rattle.lockpage.proofs.GeometryLaw.{present-proper as σ}
 use Rattle.memory.proofs.FieldLaw.{salt-length}
 use Rattle.tags.proofs.MessageLaw.{message-built}
 use Rattle.tags.proofs.store_message.Statement.{statement}
@@ -15,8 +16,8 @@ returns c =
     let salted = grouped .before .before .before .before in
     let start = salted .before .before .before .before .before in
     let out = start .args .out .now in
-    message-built _ _ out _ _ _ _ _ _ (start .pre .1 .0) (start .pre .1 .1 .1) (start .pre .0)
-    (lent-filled out _ _ 0 _ (salt-length _ (start .pre .1 .0)) (salted .copy-salt .ensures))
+    message-built σ _ _ out _ _ _ _ _ _ (start .pre .1 .0) (start .pre .1 .1 .1) (start .pre .0)
+    (lent-filled out _ _ 0 _ (salt-length σ _ (start .pre .1 .0)) (salted .copy-salt .ensures))
     (grouped .store-u64 .ensures) (counted .count .ensures) (numbered .store-u32 .ensures) (copied .copy .ensures)
 
 pub store-message-spec : {M : Type 1} → statement M

@@ -1,6 +1,7 @@
 -- `tags::store_tag` meets its contract: the tag is copied behind the page. Assumes nothing.
 use borrow.Author.Needs.{needs}
 use Rattle.octets.specs.Part.{part}
+use Rattle.lockpage.proofs.GeometryLaw.{present-proper as σ}
 use Rattle.tags.proofs.MessageLaw.{tag-stored}
 use Rattle.tags.proofs.store_tag.Statement.{statement}
 use Rattle.tags.proofs.store_tag.Tie as tie
@@ -11,7 +12,7 @@ returns c =
     let copied = c .before .before in
     let made = copied .before .before .before .before in
     let start = made .before .before .before .before .before .before in
-    tag-stored _ _ _ _ _ (start .pre .1 .1) (made .tag .ensures) (copied .copy .ensures)
+    tag-stored σ _ _ _ _ _ (start .pre .1 .1) (made .tag .ensures) (copied .copy .ensures)
 
 pub store-tag-spec : {M : Type 1} → statement M
 store-tag-spec =

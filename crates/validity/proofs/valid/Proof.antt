@@ -4,7 +4,9 @@ use mathlib.Core.List.{List}
 use Prim.Native.Nat.{ℕ, _*_, _-_}
 use mathlib.Core.Path.{_≡_, ap, sym, _∙_}
 use native.Mathlib.Omega.{arith}
-use Rattle.memory.specs.Layout.{mostGroups, countStart, timeStart}
+use Rattle.lockpage.specs.Geometry.{present}
+use Rattle.lockpage.proofs.GeometryLaw.{present-proper as σ}
+use Rattle.memory.specs.Layout.{countStart, timeStart}
 use Rattle.memory.specs.Memory.{groups}
 use Rattle.validity.proofs.ValidLaw.{invalid}
 use Rattle.validity.proofs.CheckLaw.{Passed, counts-used, counts-unused, reserved-used, reserved-zero, held-out, held-uncounted, page-decides, count-decides}
@@ -15,24 +17,24 @@ use Rattle.validity.proofs.valid.Tie as tie
 abbrev bytes : tie.After-count-start → List ℕ
 bytes c = c .before .before .before .before .before .before .before .before .args .memory .now
 
-groups-read : (c : tie.After-count-start) → c .before .before .before .before .before .groups .result ≡ groups (bytes c)
+groups-read : (c : tie.After-count-start) → c .before .before .before .before .before .groups .result ≡ groups present (bytes c)
 groups-read c = c .before .before .before .before .before .groups .ensures
 
-unused-start : (c : tie.After-count-start) → c .count-start .result ≡ countStart (groups (bytes c))
+unused-start : (c : tie.After-count-start) → c .count-start .result ≡ countStart (groups present (bytes c))
 unused-start c = c .count-start .ensures ∙ ap (λ (g : ℕ). countStart g) (groups-read c)
 
 -- how many words they are
 unused-size : (c : tie.After-count-start)
-    → 4 * (mostGroups - c .before .before .before .before .before .groups .result) ≡ timeStart - countStart (groups (bytes c))
+    → 4 * (present .mostGroups - c .before .before .before .before .before .groups .result) ≡ timeStart present - countStart (groups present (bytes c))
 unused-size c = omega (arith, groups-read c, c .before .before .before .if3 .left)
 
 unused : tie.Need-returns-5
 unused c =
     let placed = c .before .before in
-    counts-used _ _ _ _ (unused-start placed) (unused-size placed) (c .before .zero-words .ensures) (c .if5 .taken)
+    counts-used σ _ _ _ _ (unused-start placed) (unused-size placed) (c .before .zero-words .ensures) (c .if5 .taken)
 
 -- the clauses on all but the held group, once they are passed
-passed : (c : tie.Else6) → Passed (bytes (c .before .before .before .before))
+passed : (c : tie.Else6) → Passed present (bytes (c .before .before .before .before))
 passed c =
     let five = c .before .before in
     let placed = five .before .before in
@@ -45,42 +47,42 @@ passed c =
       least = omega (arith, two .if2 .left, groups);
       most = omega (arith, three .if3 .left, groups);
       time = omega (arith, four .if4 .left, four .before .last-time .ensures);
-      unused = counts-unused _ _ _ _ (unused-start placed) (unused-size placed) (five .before .zero-words .ensures) (five .if5 .left);
-      reserved = reserved-zero _ _ (c .before .filled .ensures) (c .if6 .left);
+      unused = counts-unused σ _ _ _ _ (unused-start placed) (unused-size placed) (five .before .zero-words .ensures) (five .if5 .left);
+      reserved = reserved-zero σ _ _ (c .before .filled .ensures) (c .if6 .left);
     }
 
 page : tie.Need-returns-7
 page c =
     let held = c .before .before in
-    page-decides _ (passed (held .before)) _ (sym (held .held .ensures) ∙ c .before .if7 .taken) (c .is-zero .ensures)
+    page-decides σ _ (passed (held .before)) _ (sym (held .held .ensures) ∙ c .before .if7 .taken) (c .is-zero .ensures)
 
 -- the held group, once it is not none
 out : tie.Need-returns-8
 out c =
     let held = c .before .before in
     let placed = held .before .before .before .before .before in
-    held-out _ _ (held .held .ensures) (c .before .if7 .left) _ (groups-read placed) (omega (arith, c .if8 .taken))
+    held-out σ _ _ (held .held .ensures) (c .before .if7 .left) _ (groups-read placed) (omega (arith, c .if8 .taken))
 
 uncounted : tie.Need-returns-9
 uncounted c =
     let held = c .before .before .before .before in
     let some = c .before .before .before .if7 .left in
-    held-uncounted _ _ (held .held .ensures) some _ (c .before .count .ensures) (omega (arith, c .if9 .taken))
+    held-uncounted σ _ _ (held .held .ensures) some _ (c .before .count .ensures) (omega (arith, c .if9 .taken))
 
 count : tie.Need-returns-10
 count c =
     let eight = c .before .before in
     let held = eight .before .before in
     let placed = held .before .before .before .before .before in
-    count-decides _ (passed (held .before)) _ _ (held .held .ensures) (eight .before .if7 .left)
+    count-decides σ _ (passed (held .before)) _ _ (held .held .ensures) (eight .before .if7 .left)
     (omega (arith, eight .if8 .left, groups-read placed)) (c .before .count .ensures) (omega (arith, c .if9 .left))
 
 pub valid-spec : {M : Type 1} → statement M
 valid-spec =
     tie.close
-    (tie.spec (λ c. invalid _ (λ v. omega (arith, c .if1 .taken, v .size))) (λ c κs. search needs)
-    (λ c. invalid _ (λ v. omega (arith, c .if2 .taken, c .before .groups .ensures, v .least)))
-    (λ c. invalid _ (λ v. omega (arith, c .if3 .taken, c .before .before .groups .ensures, v .most))) (λ c κs. search needs)
-    (λ c. invalid _ (λ v. omega (arith, c .if4 .taken, c .before .last-time .ensures, v .time))) (λ c κs. search needs) (λ c. search needs)
-    (λ c κs. search needs) unused (λ c κs. search needs) (λ c. reserved-used _ _ (c .before .filled .ensures) (c .if6 .taken))
+    (tie.spec (λ c. invalid σ _ (λ v. omega (arith, c .if1 .taken, v .size))) (λ c κs. search needs)
+    (λ c. invalid σ _ (λ v. omega (arith, c .if2 .taken, c .before .groups .ensures, v .least)))
+    (λ c. invalid σ _ (λ v. omega (arith, c .if3 .taken, c .before .before .groups .ensures, v .most))) (λ c κs. search needs)
+    (λ c. invalid σ _ (λ v. omega (arith, c .if4 .taken, c .before .last-time .ensures, v .time))) (λ c κs. search needs) (λ c. search needs)
+    (λ c κs. search needs) unused (λ c κs. search needs) (λ c. reserved-used σ _ _ (c .before .filled .ensures) (c .if6 .taken))
     (λ c κs. search needs) (λ c. search needs) (λ c κs. search needs) page out (λ c κs. search needs) uncounted count)

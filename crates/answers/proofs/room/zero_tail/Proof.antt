@@ -1,6 +1,7 @@
 -- `answers::room::zero_tail` meets its contract: a part of an array of zeros is copied. Assumes nothing.
 use borrow.Author.Needs.{needs}
 use Rattle.octets.specs.Part.{repeated}
+use Rattle.lockpage.proofs.GeometryLaw.{present-proper as σ}
 use Rattle.answers.proofs.RoomLaw.{zeros-copied}
 use Rattle.answers.proofs.room.zero_tail.Statement.{statement}
 use Rattle.answers.proofs.room.zero_tail.Tie as tie
@@ -10,7 +11,7 @@ unfolding repeated
 returns c =
     let copied = c .before .before in
     let start = copied .before .before .before .before in
-    zeros-copied _ _ _ (start .pre .1) (copied .copy .ensures)
+    zeros-copied σ _ _ _ (start .pre .1) (copied .copy .ensures)
 
 pub zero-tail-spec : {M : Type 1} → statement M
 zero-tail-spec =

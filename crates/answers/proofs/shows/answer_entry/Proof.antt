@@ -1,5 +1,6 @@
 -- `answers::shows::answer_entry` meets its contract: zeros, and the three parts one after the other over them. Assumes nothing.
 use borrow.Author.Needs.{needs}
+use Rattle.lockpage.proofs.GeometryLaw.{present-proper as σ}
 use Rattle.answers.proofs.ShowLaw.{entry-answered}
 use Rattle.answers.proofs.shows.answer_entry.Statement.{statement}
 use Rattle.answers.proofs.shows.answer_entry.Tie as tie
@@ -12,7 +13,7 @@ returns c =
     let first = second .before .before .before .before in
     let zeroed = first .before .before .before .before in
     let start = zeroed .before .before .before in
-    entry-answered _ _ _ _ _ _ _ _ _ (start .pre) (zeroed .zero-tail .ensures) (first .store-entry .ensures)
+    entry-answered σ _ _ _ _ _ _ _ _ _ (start .pre) (zeroed .zero-tail .ensures) (first .store-entry .ensures)
     (second .store-time-left .ensures) (number .before .state .ensures) (number .state-number .ensures) (third .store-u8 .ensures)
 
 pub answer-entry-spec : {M : Type 1} → statement M

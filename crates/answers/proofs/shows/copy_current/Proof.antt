@@ -1,5 +1,6 @@
 -- `answers::shows::copy_current` meets its contract: the held page if the group is held, else the disk's. Assumes nothing.
 use borrow.Author.Needs.{needs}
+use Rattle.lockpage.proofs.GeometryLaw.{present-proper as σ}
 use Rattle.answers.proofs.ShowLaw.{page-held, page-other}
 use Rattle.answers.proofs.shows.copy_current.Statement.{statement}
 use Rattle.answers.proofs.shows.copy_current.Tie as tie
@@ -8,13 +9,13 @@ returns : tie.Need-returns
 returns c =
     let copied = c .before .before in
     let same = copied .before .before in
-    page-held _ _ _ _ (same .before .held .ensures) _ (same .if1 .taken) (copied .copy-page .ensures)
+    page-held σ _ _ _ _ (same .before .held .ensures) _ (same .if1 .taken) (copied .copy-page .ensures)
 
 returns-2 : tie.Need-returns-2
 returns-2 c =
     let copied = c .before .before in
     let other = copied .before .before in
-    page-other _ _ _ _ (other .before .held .ensures) _ (other .if1 .left) (copied .read-page .ensures)
+    page-other σ _ _ _ _ (other .before .held .ensures) _ (other .if1 .left) (copied .read-page .ensures)
 
 pub copy-current-spec : {M : Type 1} → statement M
 copy-current-spec =

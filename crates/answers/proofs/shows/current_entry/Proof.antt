@@ -1,6 +1,7 @@
 -- `answers::shows::current_entry` meets its contract: of the held page if the group is held, else of the disk's. Assumes nothing.
 use borrow.Author.Needs.{needs}
 use native.Mathlib.Omega.{arith}
+use Rattle.lockpage.proofs.GeometryLaw.{present-proper as σ}
 use Rattle.addressing.proofs.MapLaw.{placeOf-below}
 use Rattle.disk.proofs.LentLaw.{has-computed}
 use Rattle.answers.proofs.ShowLaw.{entry-held, entry-other}
@@ -11,28 +12,28 @@ load-entry-requires : tie.Need-load-entry-requires
 load-entry-requires c κs =
     let placed = c .before .before in
     let start = placed .before .before .before .before in
-    (start .pre .0, omega (arith, placed .place-of .ensures, placeOf-below (start .args .block)))
+    (start .pre .0, omega (arith, placed .place-of .ensures, placeOf-below σ (start .args .block)))
 
 load-entry-requires-2 : tie.Need-load-entry-requires-2
 load-entry-requires-2 c κs =
     let placed = c .before .before in
     let start = placed .before .before .before .before in (
-      has-computed _ _ _ (start .pre .1) (placed .before .group-of .ensures),
-      omega (arith, placed .place-of .ensures, placeOf-below (start .args .block)),
+      has-computed σ _ _ _ (start .pre .1) (placed .before .group-of .ensures),
+      omega (arith, placed .place-of .ensures, placeOf-below σ (start .args .block)),
     )
 
 returns : tie.Need-returns
 returns c =
     let asked = c .before .before in
     let placed = asked .before in
-    entry-held _ _ _ _ (asked .held .ensures) _ _ (placed .before .group-of .ensures) (placed .place-of .ensures) _ (c .before .if1 .taken)
+    entry-held σ _ _ _ _ (asked .held .ensures) _ _ (placed .before .group-of .ensures) (placed .place-of .ensures) _ (c .before .if1 .taken)
     (c .load-entry .ensures)
 
 returns-2 : tie.Need-returns-2
 returns-2 c =
     let asked = c .before .before in
     let placed = asked .before in
-    entry-other _ _ _ _ (asked .held .ensures) _ _ (placed .before .group-of .ensures) (placed .place-of .ensures) _ (c .before .if1 .left)
+    entry-other σ _ _ _ _ (asked .held .ensures) _ _ (placed .before .group-of .ensures) (placed .place-of .ensures) _ (c .before .if1 .left)
     (c .load-entry2 .ensures)
 
 pub current-entry-spec : {M : Type 1} → statement M

@@ -2,6 +2,7 @@
 use borrow.Author.Needs.{needs}
 use native.Mathlib.Omega.{arith}
 use Rattle.octets.specs.Part.{Below}
+use Rattle.lockpage.proofs.GeometryLaw.{present-proper as σ}
 use Rattle.addressing.proofs.MapLaw.{dataBlocks-small}
 use Rattle.memory.proofs.RangeLaw.{groups-small}
 use Rattle.answers.proofs.ShowLaw.{identify-outcome}
@@ -13,8 +14,8 @@ unfolding Below
 cast-store-u32 c =
     let asked = c .before .before .before .before .before .before in
     let known = asked .before .before in
-    let small = groups-small (known .before .before .set-last-time .last .0) (λ i. omega (arith, known .slice-known3 .given i)) in
-    omega (arith, c .data-blocks .ensures, dataBlocks-small (asked .groups .result) (omega (arith, asked .groups .ensures, small)))
+    let small = groups-small σ (known .before .before .set-last-time .last .0) (λ i. omega (arith, known .slice-known3 .given i)) in
+    omega (arith, c .data-blocks .ensures, dataBlocks-small σ (asked .groups .result) (omega (arith, asked .groups .ensures, small)))
 
 returns : tie.Need-returns
 returns c disk =
@@ -25,7 +26,7 @@ returns c disk =
     let asked = first .before .before in
     let timed = asked .before .before .before .before in
     let start = timed .before .before .before .before in
-    identify-outcome _ disk _ _ (timed .set-last-time .ensures) _ _ _ _ _ _ (start .pre .1) (asked .groups .ensures)
+    identify-outcome σ _ disk _ _ (timed .set-last-time .ensures) _ _ _ _ _ _ (start .pre .1) (asked .groups .ensures)
     (first .store-u32 .ensures) (counted .data-blocks .ensures) (second .store-u322 .ensures) (zeroed .zero-tail .ensures)
 
 pub identify-spec : {M : Type 1} → statement M

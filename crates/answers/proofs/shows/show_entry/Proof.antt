@@ -1,6 +1,7 @@
 -- `answers::shows::show_entry` meets its contract: the block's entry on the current page, answered. Assumes nothing.
 use borrow.Author.Needs.{needs}
 use mathlib.Core.Path.{_∙_}
+use Rattle.lockpage.proofs.GeometryLaw.{present-proper as σ}
 use Rattle.disk.proofs.DiskLaw.{hasGroup-of}
 use Rattle.validity.proofs.ValidLaw.{facts}
 use Rattle.answers.proofs.ShowLaw.{entry-outcome}
@@ -11,17 +12,17 @@ current-entry-requires : tie.Need-current-entry-requires
 current-entry-requires c κs =
     let kept = c .before .before in
     let start = kept .before .before .before .before .before .before in
-    (kept .memory .given ∙ facts _ (start .pre .0 .0) .size, hasGroup-of _ _ _ (start .pre .0 .1) (start .pre .1 .0))
+    (kept .memory .given ∙ facts σ _ (start .pre .0 .0) .size, hasGroup-of σ _ _ _ (start .pre .0 .1) (start .pre .1 .0))
 
 returns : tie.Need-returns
 returns c =
     let answered = c .before .before in
     let loaded = answered .before .before in
     let timed = loaded .before .before .before .before in
-    entry-outcome _ _ _ _ (timed .set-last-time .ensures) _ _ _ (loaded .current-entry .ensures) (answered .answer-entry .ensures)
+    entry-outcome σ _ _ _ _ (timed .set-last-time .ensures) _ _ _ (loaded .current-entry .ensures) (answered .answer-entry .ensures)
 
 pub show-entry-spec : {M : Type 1} → statement M
 show-entry-spec =
     tie.close
-    (tie.spec (λ c κs. facts _ (c .before .before .before .before .pre .0 .0) .size) current-entry-requires (λ c κs. search needs)
+    (tie.spec (λ c κs. facts σ _ (c .before .before .before .before .pre .0 .0) .size) current-entry-requires (λ c κs. search needs)
     (λ c. search needs) (λ c. search needs) returns)

@@ -2,6 +2,7 @@
 use borrow.Author.Needs.{needs}
 use mathlib.Core.Path.{_∙_}
 use native.Mathlib.Omega.{arith}
+use Rattle.lockpage.proofs.GeometryLaw.{present-proper as σ}
 use Rattle.disk.proofs.DiskLaw.{hasGroup}
 use Rattle.validity.proofs.ValidLaw.{facts}
 use Rattle.answers.proofs.ShowLaw.{page-outcome}
@@ -12,15 +13,15 @@ copy-current-requires : tie.Need-copy-current-requires
 copy-current-requires c κs =
     let kept = c .before .before .before in
     let start = kept .before .before .before .before .before .before in (
-      kept .memory .given ∙ facts _ (start .pre .0 .0) .size,
-      (hasGroup _ _ _ (start .pre .0 .1) (start .pre .1 .0), search needs),
+      kept .memory .given ∙ facts σ _ (start .pre .0 .0) .size,
+      (hasGroup σ _ _ _ (start .pre .0 .1) (start .pre .1 .0), search needs),
     )
 
 store-tag-requires : tie.Need-store-tag-requires
 store-tag-requires c κs =
     let kept = c .before .before .before .before .before .before .before .before in
     let start = kept .before .before .before .before .before .before in
-    let v = facts _ (start .pre .0 .0) in
+    let v = facts σ _ (start .pre .0 .0) in
     (kept .memory .given ∙ v .size, (omega (arith, v .most, start .pre .1 .0), search needs))
 
 returns : tie.Need-returns
@@ -29,11 +30,11 @@ returns c =
     let copied = tagged .before .before .before .before .before in
     let timed = copied .before .before .before .before .before in
     let start = timed .before .before .before .before .before in
-    page-outcome _ _ _ _ (timed .set-last-time .ensures) (start .args .answer .now) _ _ _ (facts _ (start .pre .0 .0) .size)
+    page-outcome σ _ _ _ _ (timed .set-last-time .ensures) (start .args .answer .now) _ _ _ (facts σ _ (start .pre .0 .0) .size)
     (omega (arith, start .fits .time)) (start .pre .0 .1) (start .pre .1 .0) (copied .copy-current .ensures) (tagged .store-tag .ensures)
 
 pub show-page-spec : {M : Type 1} → statement M
 show-page-spec =
     tie.close
-    (tie.spec (λ c κs. facts _ (c .before .before .before .before .pre .0 .0) .size) (λ c. search needs) (λ c. search needs)
+    (tie.spec (λ c κs. facts σ _ (c .before .before .before .before .pre .0 .0) .size) (λ c. search needs) (λ c. search needs)
     (λ c. search needs) copy-current-requires store-tag-requires (λ c. search needs) (λ c. search needs) returns)

@@ -1,6 +1,7 @@
 -- `disk::group::read_block` meets its contract, by that of the copy. Assumes nothing.
 use borrow.Author.Needs.{needs}
 use native.Mathlib.Omega.{arith}
+use Rattle.lockpage.proofs.GeometryLaw.{present-proper as σ}
 use Rattle.addressing.proofs.MapLaw.{blockStart-place}
 use Rattle.disk.proofs.LentLaw.{block-copied}
 use Rattle.disk.proofs.group.read_block.Statement.{statement}
@@ -9,7 +10,7 @@ use Rattle.disk.proofs.group.read_block.Tie as tie
 copy-requires : tie.Need-copy-requires
 copy-requires c κs =
     let start = c .before .before .before .before in
-    let inside = blockStart-place _ (start .pre .0) in
+    let inside = blockStart-place σ _ (start .pre .0) in
     (omega (arith, inside), omega arith)
 
 returns : tie.Need-returns
@@ -17,8 +18,8 @@ returns c =
     let copied = c .before .before in
     let started = copied .before .before in
     let start = started .before .before .before in
-    let inside = blockStart-place _ (start .pre .0) in
-    block-copied _ _ _ _ _ (start .pre .1 .1) (omega (arith, inside)) (started .block-start .ensures) (copied .copy .ensures)
+    let inside = blockStart-place σ _ (start .pre .0) in
+    block-copied σ _ _ _ _ _ (start .pre .1 .1) (omega (arith, inside)) (started .block-start .ensures) (copied .copy .ensures)
 
 pub read-block-spec : {M : Type 1} → statement M
 read-block-spec = tie.close (tie.spec (λ c κs. search needs) copy-requires (λ c. search needs) returns)

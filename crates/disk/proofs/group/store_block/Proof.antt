@@ -3,23 +3,25 @@ use borrow.Author.Needs.{needs}
 use native.Mathlib.Omega.{arith}
 use Prim.Native.Nat.{_+_, _≤_}
 use lib.ListN.{length}
+use Rattle.lockpage.specs.Geometry.{present}
 use Rattle.lockpage.specs.Size.{blockSize}
+use Rattle.lockpage.proofs.GeometryLaw.{present-proper as σ}
 use Rattle.addressing.proofs.MapLaw.{blockStart-place}
 use Rattle.disk.proofs.LentLaw.{block-filled}
 use Rattle.disk.proofs.group.store_block.Statement.{statement}
 use Rattle.disk.proofs.group.store_block.Tie as tie
 
 -- the block's end in the stretch
-ends : (c : tie.After-block-start) → c .block-start .result + blockSize ≤ length (c .before .before .before .args .group .now)
+ends : (c : tie.After-block-start) → c .block-start .result + blockSize present ≤ length (c .before .before .before .args .group .now)
 ends c =
     let start = c .before .before .before in
-    omega (arith, c .block-start .ensures, start .pre .1 .0, blockStart-place _ (start .pre .0))
+    omega (arith, c .block-start .ensures, start .pre .1 .0, blockStart-place σ _ (start .pre .0))
 
 returns : tie.Need-returns
 returns c =
     let copied = c .before .before in
     let started = copied .before .before in
-    block-filled _ _ _ _ _ (started .before .before .before .pre .1 .1) (ends started) (started .block-start .ensures) (copied .copy .ensures)
+    block-filled σ _ _ _ _ _ (started .before .before .before .pre .1 .1) (ends started) (started .block-start .ensures) (copied .copy .ensures)
 
 pub store-block-spec : {M : Type 1} → statement M
 store-block-spec =

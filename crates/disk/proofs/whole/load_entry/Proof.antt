@@ -2,6 +2,8 @@
 use borrow.Author.Needs.{needs}
 use mathlib.Core.Path.{refl}
 use native.Mathlib.Omega.{arith}
+use Rattle.lockpage.specs.Geometry.{present}
+use Rattle.lockpage.proofs.GeometryLaw.{present-proper as σ}
 use Rattle.addressing.specs.Map.{pagePlace}
 use Rattle.addressing.proofs.MapLaw.{pageBlock-place}
 use Rattle.disk.proofs.LentLaw.{cut-length, block-read, entry-cut}
@@ -11,13 +13,13 @@ use Rattle.disk.proofs.whole.load_entry.Tie as tie
 load-entry-requires : tie.Need-load-entry-requires
 load-entry-requires c κs =
     let start = c .before .before in
-    (cut-length _ _ _ _ (start .pre .0) refl (c .stretch .ensures), search needs)
+    (cut-length σ _ _ _ _ (start .pre .0) refl (c .stretch .ensures), search needs)
 
 returns : tie.Need-returns
 returns c =
     let cut = c .before in
     entry-cut _ _ _ _
-    (block-read _ _ _ _ (cut .before .before .pre .0) refl (cut .stretch .ensures) _ pagePlace _ (omega arith) (pageBlock-place _) refl)
+    (block-read σ _ _ _ _ (cut .before .before .pre .0) refl (cut .stretch .ensures) _ (pagePlace present) _ (omega arith) (pageBlock-place σ _) refl)
     (c .load-entry .ensures)
 
 pub load-entry-spec : {M : Type 1} → statement M

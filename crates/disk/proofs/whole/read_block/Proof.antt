@@ -1,5 +1,6 @@
 -- `disk::whole::read_block` meets its contract, by its group's stretch and its place there. Assumes nothing.
 use borrow.Author.Needs.{needs}
+use Rattle.lockpage.proofs.GeometryLaw.{present-proper as σ}
 use Rattle.addressing.proofs.MapLaw.{physical-at, placeOf-in}
 use Rattle.disk.proofs.LentLaw.{has-computed, cut-length, block-read}
 use Rattle.disk.proofs.whole.read_block.Statement.{statement}
@@ -10,8 +11,8 @@ read-block-requires c κs =
     let placed = c .before in
     let cut = placed .before in
     let start = cut .before .before .before .before in (
-      placeOf-in _ _ (placed .place-of .ensures),
-      (cut-length _ _ _ _ (start .pre .0) (cut .before .group-of .ensures) (cut .stretch .ensures), search needs),
+      placeOf-in σ _ _ (placed .place-of .ensures),
+      (cut-length σ _ _ _ _ (start .pre .0) (cut .before .group-of .ensures) (cut .stretch .ensures), search needs),
     )
 
 returns : tie.Need-returns
@@ -21,11 +22,11 @@ returns c =
     let cut = placed .before in
     let start = cut .before .before .before .before in
     let place = placed .place-of .ensures in
-    block-read _ _ _ _ (start .pre .0) (cut .before .group-of .ensures) (cut .stretch .ensures) _ _ _ (placeOf-in _ _ place)
-    (physical-at _ _ place) (called .read-block .ensures)
+    block-read σ _ _ _ _ (start .pre .0) (cut .before .group-of .ensures) (cut .stretch .ensures) _ _ _ (placeOf-in σ _ _ place)
+    (physical-at σ _ _ place) (called .read-block .ensures)
 
 pub read-block-spec : {M : Type 1} → statement M
 read-block-spec =
     tie.close
-    (tie.spec (λ c κs. search needs) (λ c κs. has-computed _ _ _ (c .before .before .before .pre .0) (c .group-of .ensures)) (λ c κs. search needs)
+    (tie.spec (λ c κs. search needs) (λ c κs. has-computed σ _ _ _ (c .before .before .before .pre .0) (c .group-of .ensures)) (λ c κs. search needs)
     read-block-requires (λ c. search needs) returns)

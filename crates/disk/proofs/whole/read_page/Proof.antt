@@ -2,6 +2,8 @@
 use borrow.Author.Needs.{needs}
 use mathlib.Core.Path.{refl}
 use native.Mathlib.Omega.{arith}
+use Rattle.lockpage.specs.Geometry.{present}
+use Rattle.lockpage.proofs.GeometryLaw.{present-proper as σ}
 use Rattle.addressing.specs.Map.{pagePlace}
 use Rattle.addressing.proofs.MapLaw.{pageBlock-place}
 use Rattle.disk.proofs.LentLaw.{cut-length, block-read}
@@ -11,13 +13,13 @@ use Rattle.disk.proofs.whole.read_page.Tie as tie
 read-page-requires : tie.Need-read-page-requires
 read-page-requires c κs =
     let start = c .before .before .before .before in
-    (cut-length _ _ _ _ (start .pre .0) refl (c .before .stretch .ensures), search needs)
+    (cut-length σ _ _ _ _ (start .pre .0) refl (c .before .stretch .ensures), search needs)
 
 returns : tie.Need-returns
 returns c =
     let called = c .before .before in
     let cut = called .before .before in
-    block-read _ _ _ _ (cut .before .before .before .pre .0) refl (cut .stretch .ensures) _ pagePlace _ (omega arith) (pageBlock-place _)
+    block-read σ _ _ _ _ (cut .before .before .before .pre .0) refl (cut .stretch .ensures) _ (pagePlace present) _ (omega arith) (pageBlock-place σ _)
     (called .read-page .ensures)
 
 pub read-page-spec : {M : Type 1} → statement M

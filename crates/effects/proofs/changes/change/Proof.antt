@@ -5,10 +5,12 @@ use mathlib.Core.Path.{_≡_, _∙_}
 use Prim.Native.Nat.{_<_}
 use native.Mathlib.Omega.{arith}
 use lib.ListN.{length}
+use Rattle.lockpage.specs.Geometry.{present}
+use Rattle.lockpage.proofs.GeometryLaw.{present-proper as σ}
 use Rattle.addressing.specs.Map.{groupOf}
 use Rattle.addressing.proofs.MapLaw.{groupOf-below}
 use Rattle.disk.proofs.DiskLaw.{hasGroup-of}
-use Rattle.memory.specs.Layout.{memorySize, mostGroups}
+use Rattle.memory.specs.Layout.{memorySize}
 use Rattle.validity.proofs.ValidLaw.{facts}
 use Rattle.effects.proofs.TimedLaw.{timed-sound, timed-may}
 use Rattle.effects.proofs.ChangeLaw.{change-outcome}
@@ -16,23 +18,23 @@ use Rattle.effects.proofs.changes.change.Statement.{statement}
 use Rattle.effects.proofs.changes.change.Tie as tie
 
 -- of the memory at entry and of the block's group
-size : (c : tie.Start) → length (c .args .memory .now) ≡ memorySize
-size c = facts _ (c .pre .0 .0) .size
+size : (c : tie.Start) → length (c .args .memory .now) ≡ memorySize present
+size c = facts σ _ (c .pre .0 .0) .size
 
-group-small : (c : tie.Start) → groupOf (c .args .block) < mostGroups
-group-small c = omega (arith, groupOf-below _ _ (c .pre .1 .0), facts _ (c .pre .0 .0) .most)
+group-small : (c : tie.Start) → groupOf present (c .args .block) < present .mostGroups
+group-small c = omega (arith, groupOf-below σ _ _ (c .pre .1 .0), facts σ _ (c .pre .0 .0) .most)
 
 evict-requires : tie.Need-evict-requires
 evict-requires c κs =
     let timed = c .before .before .before .before in
     let start = timed .before .before .before .before .before .before .before .before in
-    timed-sound _ _ _ (timed .set-last-time .ensures) (start .pre .1 .1 .1 .0 .0) (start .args .disk .now) (start .pre .0)
+    timed-sound σ _ _ _ (timed .set-last-time .ensures) (start .pre .1 .1 .1 .0 .0) (start .args .disk .now) (start .pre .0)
 
 put-content-requires : tie.Need-put-content-requires
 put-content-requires c κs =
     let kept = c .before .before in
     let start = kept .before .before .before .before .before .before .before .before .before .before .before .before .before .before in
-    (hasGroup-of _ _ _ (kept .disk .given ∙ start .pre .0 .1) (start .pre .1 .0), start .pre .1 .1 .0)
+    (hasGroup-of σ _ _ _ (kept .disk .given ∙ start .pre .0 .1) (start .pre .1 .0), start .pre .1 .1 .0)
 
 hold-changed-requires : tie.Need-hold-changed-requires
 hold-changed-requires c κs =
@@ -41,7 +43,7 @@ hold-changed-requires c κs =
     let start = timed .before .before .before .before .before .before .before .before in
     let may = start .pre .1 .1 .1 .0 in (
       kept .memory .given ∙ size start,
-      (group-small start, timed-may _ _ _ (timed .set-last-time .ensures) (may .0) _ _ _ (size start) (group-small start) may),
+      (group-small start, timed-may σ _ _ _ (timed .set-last-time .ensures) (may .0) _ _ _ (size start) (group-small start) may),
     )
 
 copy-page-requires : tie.Need-copy-page-requires
@@ -70,7 +72,7 @@ returns c =
     let grouped = timed .before .before in
     let start = grouped .before .before .before .before .before .before in
     let may = start .pre .1 .1 .1 .0 in
-    change-outcome _ _ _ _ _ (start .args .answer .now) _ _ _ _ _ _ _ _ _ (size start) (group-small start) (may .0)
+    change-outcome σ _ _ _ _ _ (start .args .answer .now) _ _ _ _ _ _ _ _ _ (size start) (group-small start) (may .0)
     (may .1 .0) (may .1 .1 .0) (grouped .group-of .ensures) (timed .set-last-time .ensures) (evicted .evict .ensures) (put .put-content .ensures)
     (changed .hold-changed .ensures) (copied .copy-page .ensures) (tagged .store-tag .ensures)
 

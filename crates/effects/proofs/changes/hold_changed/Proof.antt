@@ -4,13 +4,13 @@ use mathlib.Core.Path.{ap, _∙_}
 use Prim.Native.Nat.{_<_}
 use native.Mathlib.Omega.{arith}
 use Rattle.octets.specs.Part.{part}
+use Rattle.lockpage.specs.Geometry.{present}
 use Rattle.lockpage.specs.declared.Entry.{Entry}
-use Rattle.lockpage.specs.Size.{entriesPerPage}
 use Rattle.lockpage.specs.Page.{entryAt}
 use Rattle.lockpage.specs.Update.{updated, withinLimit}
+use Rattle.lockpage.proofs.GeometryLaw.{present-proper as σ}
 use Rattle.lockpage.proofs.PageLaw.{entry-room}
 use Rattle.addressing.proofs.MapLaw.{placeOf-below}
-use Rattle.memory.specs.Layout.{mostGroups}
 use Rattle.memory.specs.Memory.{count}
 use Rattle.machine.specs.Command.{broughtPage}
 use Rattle.machine.proofs.TagLaw.{brought-length}
@@ -19,11 +19,11 @@ use Rattle.effects.proofs.changes.hold_changed.Statement.{statement}
 use Rattle.effects.proofs.changes.hold_changed.Tie as tie
 
 -- the group and the place that were computed
-group-small : (c : tie.After-place-of) → c .before .group-of .result < mostGroups
+group-small : (c : tie.After-place-of) → c .before .group-of .result < present .mostGroups
 group-small c = omega (arith, c .before .group-of .ensures, c .before .before .before .before .pre .1 .0)
 
-place-small : (c : tie.After-place-of) → c .place-of .result < entriesPerPage
-place-small c = omega (arith, c .place-of .ensures, placeOf-below (c .before .before .before .before .args .block))
+place-small : (c : tie.After-place-of) → c .place-of .result < present .entries
+place-small c = omega (arith, c .place-of .ensures, placeOf-below σ (c .before .before .before .before .args .block))
 
 load-entry-requires : tie.Need-load-entry-requires
 unfolding broughtPage part
@@ -31,7 +31,7 @@ load-entry-requires c κs =
     let placed = c .before in
     let start = placed .before .before .before .before in
     let proof = start .args .proof .now in
-    entry-room (broughtPage proof) _ (brought-length proof (start .pre .1 .1 .1 .0)) (place-small placed)
+    entry-room σ (broughtPage present proof) _ (brought-length σ proof (start .pre .1 .1 .1 .0)) (place-small placed)
 
 count-requires : tie.Need-count-requires
 count-requires c κs =
@@ -58,7 +58,7 @@ unfolding broughtPage part
 hold-requires c κs =
     let placed = c .before .before .before .before .before .before .before .before .before .before in
     let start = placed .before .before .before .before in
-    (search needs, (group-small placed, brought-length (start .args .proof .now) (start .pre .1 .1 .1 .0)))
+    (search needs, (group-small placed, brought-length σ (start .args .proof .now) (start .pre .1 .1 .1 .0)))
 
 updated-requires : tie.Need-updated-requires
 unfolding broughtPage part
@@ -88,7 +88,7 @@ returns c =
     let loaded = counted .before .before in
     let placed = loaded .before .before in
     let start = placed .before .before .before .before in
-    changed-held _ _ _ _ _ (start .args .proof .now) _ _ _ _ _ _ _ (start .pre .0) (start .pre .1 .0) (start .pre .1 .1 .1 .0)
+    changed-held σ _ _ _ _ _ (start .args .proof .now) _ _ _ _ _ _ _ (start .pre .0) (start .pre .1 .0) (start .pre .1 .1 .1 .0)
     (placed .before .group-of .ensures) (placed .place-of .ensures) (loaded .load-entry .ensures) (counted .count .ensures)
     (set .set-count .ensures) (held .hold .ensures) (made .updated .ensures) (stored .store-entry .ensures)
 

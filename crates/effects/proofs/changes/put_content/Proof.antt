@@ -1,6 +1,7 @@
 -- `effects::changes::put_content` meets its contract, update by update. Assumes nothing.
 use borrow.Author.Needs.{needs}
 use mathlib.Core.Path.{ap, _∙_}
+use Rattle.lockpage.specs.Geometry.{present}
 use Rattle.lockpage.specs.declared.Update.{Update}
 use Rattle.machine.specs.declared.Kind.the-variants.{Change}
 use Rattle.machine.specs.Question.{contentLength}
@@ -12,7 +13,7 @@ store-block-requires : tie.Need-store-block-requires
 store-block-requires c κs =
     let told = c .before in
     let start = told .before .before .before .before in
-    (start .pre .0, start .pre .1 ∙ ap (λ (u : Update). contentLength (Change u)) (told .enum-told .given .1))
+    (start .pre .0, start .pre .1 ∙ ap (λ (u : Update). contentLength present (Change u)) (told .enum-told .given .1))
 
 write : tie.Need-returns
 unfolding stored putContent

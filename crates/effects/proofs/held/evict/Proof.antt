@@ -1,20 +1,21 @@
 -- `effects::held::evict` meets its contract, by that of the put. Assumes nothing.
 use borrow.Author.Needs.{needs}
+use Rattle.lockpage.proofs.GeometryLaw.{present-proper as σ}
 use Rattle.validity.proofs.ValidLaw.{facts}
 use Rattle.effects.proofs.HeldLaw.{none-evicted, held-evicted}
 use Rattle.effects.proofs.held.evict.Statement.{statement}
 use Rattle.effects.proofs.held.evict.Tie as tie
 
 same : tie.Need-returns
-same c = none-evicted _ _ (c .before .held .ensures) _ _ (c .if1 .taken)
+same c = none-evicted σ _ _ (c .before .held .ensures) _ _ (c .if1 .taken)
 
 other : tie.Need-returns-2
 other c =
     let put = c .before .before in
     let tested = put .before .before in
-    held-evicted _ _ (tested .before .held .ensures) _ _ _ (tested .if1 .left) (put .put-held .ensures)
+    held-evicted σ _ _ (tested .before .held .ensures) _ _ _ (tested .if1 .left) (put .put-held .ensures)
 
 pub evict-spec : {M : Type 1} → statement M
 evict-spec =
     tie.close
-    (tie.spec (λ c κs. facts _ (c .before .before .pre .0) .size) same (λ c κs. search needs) (λ c. search needs) other)
+    (tie.spec (λ c κs. facts σ _ (c .before .before .pre .0) .size) same (λ c κs. search needs) (λ c. search needs) other)

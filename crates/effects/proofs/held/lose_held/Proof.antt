@@ -2,7 +2,8 @@
 use borrow.Author.Needs.{needs}
 use native.Mathlib.Omega.{arith}
 use Prim.Native.Nat.{_≤_, _<_}
-use Rattle.memory.specs.Layout.{mostGroups}
+use Rattle.lockpage.specs.Geometry.{present}
+use Rattle.lockpage.proofs.GeometryLaw.{present-proper as σ}
 use Rattle.validity.specs.Valid.{countLimit}
 use Rattle.validity.proofs.ValidLaw.{facts}
 use Rattle.effects.proofs.HeldLaw.{none-lost, held-few, held-count, held-lost}
@@ -10,24 +11,24 @@ use Rattle.effects.proofs.held.lose_held.Statement.{statement}
 use Rattle.effects.proofs.held.lose_held.Tie as tie
 
 none : tie.Need-returns
-none c = none-lost _ _ (c .before .held .ensures) (c .if1 .taken)
+none c = none-lost σ _ _ (c .before .held .ensures) (c .if1 .taken)
 
 -- where it starts, once a group is held
 abbrev start : tie.Else1 → tie.Start
 start c = c .before .before .before .before
 
-few : (c : tie.Else1) → c .before .held .result < mostGroups
-few c = held-few _ _ (c .before .held .ensures) (facts _ (start c .pre)) (c .if1 .left)
+few : (c : tie.Else1) → c .before .held .result < present .mostGroups
+few c = held-few σ _ _ (c .before .held .ensures) (facts σ _ (start c .pre)) (c .if1 .left)
 
 counted : (c : tie.After-count) → c .count .result ≤ countLimit
 counted c =
     let tested = c .before .before in
-    held-count _ _ (tested .before .held .ensures) (facts _ (start tested .pre)) (tested .if1 .left) _ (c .count .ensures)
+    held-count σ _ _ (tested .before .held .ensures) (facts σ _ (start tested .pre)) (tested .if1 .left) _ (c .count .ensures)
 
 set-requires : tie.Need-set-count-requires
 set-requires c κs =
     let tested = c .before .before .before .before .before .before .before in
-    let size = facts _ (start tested .pre) .size in
+    let size = facts σ _ (start tested .pre) .size in
     (search needs, few tested)
 
 some : tie.Need-returns-2
@@ -36,13 +37,13 @@ some c =
     let dropped = set .before .before .before .before in
     let counted = dropped .before .before in
     let tested = counted .before .before in
-    held-lost _ _ (tested .before .held .ensures) (facts _ (start tested .pre)) (tested .if1 .left) _ (counted .count .ensures) _ _
+    held-lost σ _ _ (tested .before .held .ensures) (facts σ _ (start tested .pre)) (tested .if1 .left) _ (counted .count .ensures) _ _
     (dropped .hold-none .ensures) (set .set-count .ensures)
 
 pub lose-held-spec : {M : Type 1} → statement M
 lose-held-spec =
     tie.close
-    (tie.spec (λ c κs. facts _ (c .before .before .pre) .size) (λ c. search needs) (λ c. search needs) none
-    (λ c κs. (facts _ (start (c .before) .pre) .size, few (c .before)))
-    (λ c κs. facts _ (start (c .before .before .before) .pre) .size)
+    (tie.spec (λ c κs. facts σ _ (c .before .before .pre) .size) (λ c. search needs) (λ c. search needs) none
+    (λ c κs. (facts σ _ (start (c .before) .pre) .size, few (c .before)))
+    (λ c κs. facts σ _ (start (c .before .before .before) .pre) .size)
     (λ c. omega (arith, counted (c .before .before .before .before .before))) set-requires (λ c. search needs) some)

@@ -2,6 +2,8 @@
 use borrow.Author.Needs.{needs}
 use mathlib.Core.Path.{_≡_, _∙_}
 use lib.ListN.{length}
+use Rattle.lockpage.specs.Geometry.{present}
+use Rattle.lockpage.proofs.GeometryLaw.{present-proper as σ}
 use Rattle.memory.specs.Layout.{memorySize}
 use Rattle.validity.proofs.ValidLaw.{facts}
 use Rattle.effects.proofs.UpkeepLaw.{renewed}
@@ -9,8 +11,8 @@ use Rattle.effects.proofs.upkeep.new_salt.Statement.{statement}
 use Rattle.effects.proofs.upkeep.new_salt.Tie as tie
 
 -- the memory's length at entry
-size : (start : tie.Start) → length (start .args .memory .now) ≡ memorySize
-size start = facts _ (start .pre .0 .0) .size
+size : (start : tie.Start) → length (start .args .memory .now) ≡ memorySize present
+size start = facts σ _ (start .pre .0 .0) .size
 
 clear-counts-requires : tie.Need-clear-counts-requires
 clear-counts-requires c κs =
@@ -29,7 +31,7 @@ returns c =
     let salted = c .before .before in
     let cleared = salted .before .before .before .before in
     let synced = cleared .before .before .before .before .before .before .before .before in
-    renewed _ _ _ _ _ _ _ _ _ (synced .sync .ensures) (cleared .clear-counts .ensures) (salted .set-salt .ensures)
+    renewed σ _ _ _ _ _ _ _ _ _ (synced .sync .ensures) (cleared .clear-counts .ensures) (salted .set-salt .ensures)
 
 pub new-salt-spec : {M : Type 1} → statement M
 new-salt-spec =

@@ -1,5 +1,6 @@
 -- `effects::upkeep::sync` meets its contract, by those of the steps. Assumes nothing.
 use borrow.Author.Needs.{needs}
+use Rattle.lockpage.proofs.GeometryLaw.{present-proper as σ}
 use Rattle.validity.proofs.ValidLaw.{facts}
 use Rattle.effects.proofs.TimedLaw.{timed-sound}
 use Rattle.effects.proofs.UpkeepLaw.{synced}
@@ -14,12 +15,12 @@ sound : tie.Need-put-held-requires
 sound c κs =
     let set = c .before .before .before .before in
     let known = start set .pre in
-    timed-sound _ _ _ (set .set-last-time .ensures) (known .1 .0) (start set .args .disk .now) (known .0)
+    timed-sound σ _ _ _ (set .set-last-time .ensures) (known .1 .0) (start set .args .disk .now) (known .0)
 
 none-requires : tie.Need-hold-none-requires
 none-requires c κs =
     let put = c .before .before .before in
-    let size = facts _ (start (put .before .before .before .before .before) .pre .0 .0) .size in
+    let size = facts σ _ (start (put .before .before .before .before .before) .pre .0 .0) .size in
     search needs
 
 returns : tie.Need-returns
@@ -28,11 +29,11 @@ returns c =
     let dropped = zeroed .before .before .before .before in
     let put = dropped .before .before .before .before in
     let set = put .before .before .before .before .before in
-    synced _ _ _ (set .set-last-time .ensures) _ _ (start set .pre .1 .1) (zeroed .zero-tail .ensures) _ _ _ (put .put-held .ensures)
+    synced σ _ _ _ (set .set-last-time .ensures) _ _ (start set .pre .1 .1) (zeroed .zero-tail .ensures) _ _ _ (put .put-held .ensures)
     (dropped .hold-none .ensures)
 
 pub sync-spec : {M : Type 1} → statement M
 sync-spec =
     tie.close
-    (tie.spec (λ c κs. facts _ (c .before .before .before .before .pre .0 .0) .size) sound none-requires (λ c κs. search needs)
+    (tie.spec (λ c κs. facts σ _ (c .before .before .before .before .pre .0 .0) .size) sound none-requires (λ c κs. search needs)
     (λ c. search needs) (λ c. search needs) (λ c. search needs) returns)

@@ -4,7 +4,9 @@ use mathlib.Core.Path.{ap, _∙_}
 use native.Mathlib.Omega.{arith}
 use Prim.Native.Nat.{_<_}
 use Rattle.octets.specs.Part.{part}
+use Rattle.lockpage.specs.Geometry.{present}
 use Rattle.lockpage.specs.Page.{entryAt}
+use Rattle.lockpage.proofs.GeometryLaw.{present-proper as σ}
 use Rattle.addressing.specs.Map.{pagePlace}
 use Rattle.addressing.proofs.MapLaw.{placeOf-below}
 use Rattle.machine.specs.Command.{broughtPage}
@@ -14,7 +16,8 @@ use Rattle.questions.proofs.change.brought_entry.Tie as tie
 load-entry-requires : tie.Need-load-entry-requires
 load-entry-requires c κs =
     let placed = c .before in
-    let below : placed .place-of .result < pagePlace = omega (arith, placed .place-of .ensures, placeOf-below (placed .before .before .args .block)) in
+    let below : placed .place-of .result < pagePlace present =
+    omega (arith, placed .place-of .ensures, placeOf-below σ (placed .before .before .args .block)) in
     search needs
 
 returns : tie.Need-returns

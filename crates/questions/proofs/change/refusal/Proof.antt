@@ -1,38 +1,40 @@
 -- `questions::change::refusal` meets its contract: the first no, in order. Assumes nothing.
 use borrow.Author.Needs.{needs}
+use Rattle.lockpage.specs.Geometry.{present}
+use Rattle.lockpage.proofs.GeometryLaw.{present-proper as σ}
 use Rattle.questions.proofs.ChangeLaw.{matches-answer, unspent-answer, allowed-answer, within-answer, Answers, no-7, no-8, no-9, no-10, none-no}
 use Rattle.questions.proofs.change.refusal.Statement.{statement}
 use Rattle.questions.proofs.change.refusal.Tie as tie
 
 -- the four answers
 answers : (c : tie.After-within-limit)
-    → Answers (c .before .before .before .before .before .before .before .before .before .args .u) (c .before .before .before .before .before .before .before .before .before .args .memory .now) (c .before .before .before .before .before .before .before .before .before .args .block) (c .before .before .before .before .before .before .before .before .before .args .time) (c .before .before .before .before .before .before .before .before .before .args .proof .now) (c .before .before .before .before .matches .result)
+    → Answers present (c .before .before .before .before .before .before .before .before .before .args .u) (c .before .before .before .before .before .before .before .before .before .args .memory .now) (c .before .before .before .before .before .before .before .before .before .args .block) (c .before .before .before .before .before .before .before .before .before .args .time) (c .before .before .before .before .before .before .before .before .before .args .proof .now) (c .before .before .before .before .matches .result)
     (c .before .before .before .is-unspent .result) (c .before .allowed .result) (c .within-limit .result)
 answers c =
     let x = c .before .before .before .before .before .before .before .before .before .args in
     let entry = c .before .before .before .before .before in
     let group = entry .before .group-of .ensures in
     record {
-      tag-is = matches-answer (x .memory .now) (x .block) (x .proof .now) _ _ group (c .before .before .before .before .matches .ensures);
-      count-is = unspent-answer (x .memory .now) (x .block) _ _ group (c .before .before .before .is-unspent .ensures);
+      tag-is = matches-answer σ (x .memory .now) (x .block) (x .proof .now) _ _ group (c .before .before .before .before .matches .ensures);
+      count-is = unspent-answer σ (x .memory .now) (x .block) _ _ group (c .before .before .before .is-unspent .ensures);
       state-is = allowed-answer (x .u) (x .time) _ _ _ _ (entry .brought-entry .ensures) (c .before .before .state .ensures) (c .before .allowed .ensures);
       limit-is = within-answer (x .u) (x .time) _ _ _ (entry .brought-entry .ensures) (c .within-limit .ensures);
     }
 
 tag : tie.Need-returns
-tag c = no-7 _ _ _ _ _ _ _ _ _ (answers (c .before)) (c .if1 .taken)
+tag c = no-7 σ _ _ _ _ _ _ _ _ _ (answers (c .before)) (c .if1 .taken)
 
 spent : tie.Need-returns-2
-spent c = no-8 _ _ _ _ _ _ _ _ _ (answers (c .before .before)) (c .before .if1 .left) (c .if2 .taken)
+spent c = no-8 σ _ _ _ _ _ _ _ _ _ (answers (c .before .before)) (c .before .if1 .left) (c .if2 .taken)
 
 state : tie.Need-returns-3
-state c = no-9 _ _ _ _ _ _ _ _ _ (answers (c .before .before .before)) (c .before .before .if1 .left) (c .before .if2 .left) (c .if3 .taken)
+state c = no-9 σ _ _ _ _ _ _ _ _ _ (answers (c .before .before .before)) (c .before .before .if1 .left) (c .before .if2 .left) (c .if3 .taken)
 
 limit : tie.Need-returns-4
-limit c = no-10 _ _ _ _ _ _ _ _ _ (answers (c .before .before .before .before)) (c .before .before .before .if1 .left) (c .before .before .if2 .left) (c .before .if3 .left) (c .if4 .taken)
+limit c = no-10 σ _ _ _ _ _ _ _ _ _ (answers (c .before .before .before .before)) (c .before .before .before .if1 .left) (c .before .before .if2 .left) (c .before .if3 .left) (c .if4 .taken)
 
 none : tie.Need-returns-5
-none c = none-no _ _ _ _ _ _ _ _ _ (answers (c .before .before .before .before)) (c .before .before .before .if1 .left) (c .before .before .if2 .left) (c .before .if3 .left) (c .if4 .left)
+none c = none-no σ _ _ _ _ _ _ _ _ _ (answers (c .before .before .before .before)) (c .before .before .before .if1 .left) (c .before .before .if2 .left) (c .before .if3 .left) (c .if4 .left)
 
 pub refusal-spec : {M : Type 1} → statement M
 refusal-spec = tie.close (tie.spec (λ c κs. search needs) (λ c κs. search needs) (λ c κs. search needs) (λ c κs. search needs) (λ c κs. search needs) (λ c κs. search needs) (λ c κs. search needs) tag spent state limit none)
