@@ -28,10 +28,11 @@ use Rattle.questions.specs.Parts.{changeQuestions}
 
 -- γ is the box's geometry
 module _ (γ : Geometry) where
+  -- questions 2 to 6
   abbrev form : Kind → Box → Command → List Question
   form k s c = formQuestions γ k (s .memory) (s .disk) (c .block) (c .now) (c .content) (c .proof) (c .answer)
 
-  -- the questions after them
+  -- those after them
   abbrev pub rest : Kind → Box → Command → List Question
   rest k s c =
       question7 γ k (s .memory) (groupOf γ (c .block)) (c .proof)
