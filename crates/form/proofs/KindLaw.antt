@@ -25,7 +25,8 @@ none n value e = numbered n 0 value Unknown e refl
 past : (n i : ℕ) → i ≤ n → (n ≡ i → ⊥) → suc i ≤ n
 past n i h other = omega (arith, other)
 
-pub unknown : (n value : ℕ) → (n ≡ 1 → ⊥) → (n ≡ 2 → ⊥) → (n ≡ 3 → ⊥) → (n ≡ 4 → ⊥) → (n ≡ 5 → ⊥) → (n ≡ 6 → ⊥) → (n ≡ 7 → ⊥) → (n ≡ 8 → ⊥) → (n ≡ 9 → ⊥) → (n ≡ 10 → ⊥)
+pub unknown : (n value : ℕ) → (n ≡ 1 → ⊥) → (n ≡ 2 → ⊥) → (n ≡ 3 → ⊥) → (n ≡ 4 → ⊥) → (n ≡ 5 → ⊥) → (n ≡ 6 → ⊥) → (n ≡ 7 → ⊥) → (n ≡ 8 → ⊥)
+    → (n ≡ 9 → ⊥) → (n ≡ 10 → ⊥)
     → Unknown ≡ kindNumbered n value
 unknown zero value h1 h2 h3 h4 h5 h6 h7 h8 h9 h10 = none zero value refl
 unknown (suc m) value h1 h2 h3 h4 h5 h6 h7 h8 h9 h10 =

@@ -30,7 +30,8 @@ module _ {γ : Geometry} (σ : Proper γ) where
     unfolding withHeldPage heldPage part
     entry-stored i e h er =
         let page : length (part m (pageStart γ) (pageSize γ)) ≡ pageSize γ = part-length m (pageStart γ) (pageSize γ) (omega arith) in
-        replaced-lent m (pageStart γ) (pageSize γ) r (ap length er ∙ withEntry-length (part m (pageStart γ) (pageSize γ)) i e (entry-room σ (part m (pageStart γ) (pageSize γ)) i page h) ∙ page)
+        replaced-lent m (pageStart γ) (pageSize γ) r
+        (ap length er ∙ withEntry-length (part m (pageStart γ) (pageSize γ)) i e (entry-room σ (part m (pageStart γ) (pageSize γ)) i page h) ∙ page)
         ∙ ap (replaced m (pageStart γ)) er
 
   -- the held group stored, then its page

@@ -166,7 +166,12 @@ module _ {γ : Geometry} (σ : Proper γ) where
   named-short NewSalt s c q x = omega arith
   named-short Identify s c q x =
       let g = groups γ (s .memory) in
-      omega (arith, length-append (bytes identifySize g) (bytes identifySize (dataBlocks γ g)), bytes-length identifySize g, bytes-length identifySize (dataBlocks γ g))
+      omega (
+        arith,
+        length-append (bytes identifySize g) (bytes identifySize (dataBlocks γ g)),
+        bytes-length identifySize g,
+        bytes-length identifySize (dataBlocks γ g),
+      )
   named-short Unknown s c q x = omega arith
 
   -- ---- an accepted command

@@ -97,7 +97,8 @@ module _ {γ : Geometry} (σ : Proper γ) where
   restarted-reads m l e h n = rw (restarted, ne-eqb (held γ m) none e) (both (page-dropped σ m l))
     where
       both : Reads γ (holdingNone γ m) (salt m) (count m) (lastTime γ m) (groups γ m) none (repeated (pageSize γ) 0)
-          → Reads γ (withCount (holdingNone γ m) (held γ m) (count m (held γ m) + 1)) (salt m) (changed (count m) (held γ m) (count m (held γ m) + 1)) (lastTime γ m) (groups γ m) none (repeated (pageSize γ) 0)
+          → Reads γ (withCount (holdingNone γ m) (held γ m) (count m (held γ m) + 1)) (salt m) (changed (count m) (held γ m) (count m (held γ m) + 1))
+          (lastTime γ m) (groups γ m) none (repeated (pageSize γ) 0)
       both a =
           let b = count-set σ (holdingNone γ m) (a .size) (held γ m) (count m (held γ m) + 1) h n in
           record {

@@ -29,10 +29,20 @@ unfolding firstNo
 first-no [] h = absurd (h refl)
 first-no (NotPut ∷ qs) h =
     let rest = first-no qs h in
-    record { earlier = NotPut ∷ rest .earlier; later = rest .later; split = ap (λ (l : List Question). NotPut ∷ l) (rest .split); before = (refl, rest .before) }
+    record {
+      earlier = NotPut ∷ rest .earlier;
+      later = rest .later;
+      split = ap (λ (l : List Question). NotPut ∷ l) (rest .split);
+      before = (refl, rest .before);
+    }
 first-no (Put n true ∷ qs) h =
     let rest = first-no qs h in
-    record { earlier = Put n true ∷ rest .earlier; later = rest .later; split = ap (λ (l : List Question). Put n true ∷ l) (rest .split); before = (refl, rest .before) }
+    record {
+      earlier = Put n true ∷ rest .earlier;
+      later = rest .later;
+      split = ap (λ (l : List Question). Put n true ∷ l) (rest .split);
+      before = (refl, rest .before);
+    }
 first-no (Put n false ∷ qs) h = record { earlier = []; later = qs; split = refl; before = tt }
 
 -- whether each has a number from 1 to n
@@ -52,7 +62,10 @@ pub accepted-yes : (n : ℕ) (qs : List Question) → numberedTo n qs ≡ true �
 unfolding firstNo numberedTo
 accepted-yes n [] h e = tt
 accepted-yes n (NotPut ∷ qs) h e = (refl, accepted-yes n qs h e)
-accepted-yes n (Put k true ∷ qs) h e = (refl, accepted-yes n qs (and-elim-right (leb k n) (numberedTo n qs) (and-elim-right (leb 1 k) (leb k n && numberedTo n qs) h)) e)
+accepted-yes n (Put k true ∷ qs) h e = (
+  refl,
+  accepted-yes n qs (and-elim-right (leb k n) (numberedTo n qs) (and-elim-right (leb 1 k) (leb k n && numberedTo n qs) h)) e,
+)
 accepted-yes n (Put k false ∷ qs) h e = absurd (omega (arith, leb-true 1 k (and-elim-left (leb 1 k) (leb k n && numberedTo n qs) h)))
 
 -- those that have yes leave it to the rest

@@ -95,7 +95,8 @@ module _ {γ : Geometry} (σ : Proper γ) where
       let q = passed σ (Change Unfreeze) s c yes-all in
       let x = changes σ Unfreeze s c yes-all in
       let e = broughtEntry γ c in
-      let fits = updated-fits Unfreeze (c .now) e (q .early) (entryAt-fits (broughtPage γ (c .proof)) (placeOf γ (c .block)) (brought-are σ (c .proof) bytes)) (x .within) in
+      let fits = updated-fits Unfreeze (c .now) e (q .early)
+      (entryAt-fits (broughtPage γ (c .proof)) (placeOf γ (c .block)) (brought-are σ (c .proof) bytes)) (x .within) in
       let room = entry-room σ (broughtPage γ (c .proof)) (placeOf γ (c .block)) (brought-length σ (c .proof) (x .proof)) (placeOf-below σ (c .block)) in
       let stored : entryAt (changedPage γ Unfreeze c) (placeOf γ (c .block)) ≡ updated Unfreeze (c .now) e =
       entryAt-same (broughtPage γ (c .proof)) (placeOf γ (c .block)) (updated Unfreeze (c .now) e) room fits in

@@ -76,7 +76,8 @@ module _ {γ : Geometry} (σ : Proper γ) where
       let n = bytes countSize (count m g) in
       let at : saltSize + groupNumberSize ≡ length s + (length b + 0) = omega (arith, salt-length σ m l, bytes-length groupNumberSize g) in
       ap (λ (k : ℕ). number (part (s ++ (b ++ (n ++ p))) k countSize)) at
-      ∙ ap number (part-right s (b ++ (n ++ p)) (length b + 0) countSize ∙ part-right b (n ++ p) 0 countSize ∙ part-first n p countSize (bytes-length countSize (count m g)))
+      ∙ ap number (part-right s (b ++ (n ++ p)) (length b + 0) countSize ∙ part-right b (n ++ p) 0 countSize
+      ∙ part-first n p countSize (bytes-length countSize (count m g)))
       ∙ number-bytes countSize (count m g) small
 
   pub message-length : (m : List ℕ) (g : ℕ) (p : List ℕ) → length m ≡ memorySize γ

@@ -116,7 +116,8 @@ input-end (b ∷ text) line n s r =
 -- ---- all of it
 
 module _ (b : ℕ) (input text : List ℕ) (line : Line) (n : ℕ) (s : Box) (h : n + length (b ∷ input) < mostNumber + 1) (r : Reads text line)
-    (again : (t : List ℕ) (l : Line) (m : ℕ) (u : Box) → m + length input < mostNumber + 1 → Reads t l → wholeRead (readerOf m (Body l)) u input ≡ bodyPrinted u m (lines (t ++ input)))
+    (again : (t : List ℕ) (l : Line) (m : ℕ) (u : Box) → m + length input < mostNumber + 1 → Reads t l
+    → wholeRead (readerOf m (Body l)) u input ≡ bodyPrinted u m (lines (t ++ input)))
   where
     split : b ≡ newline → lines (text ++ (b ∷ input)) ≡ text ∷ lines input
     split e = ap (λ (x : ℕ). lines (text ++ (x ∷ input))) e ∙ cut-at newline [] text input (r .plain)
@@ -148,7 +149,8 @@ module _ (b : ℕ) (input text : List ℕ) (line : Line) (n : ℕ) (s : Box) (h 
         let first = cut-further newline [] text b input (r .plain) e in
         whole-next (readerOf n (Body line)) s b input (stopped n s) (body-wrong n line s b e k)
         ∙ stopped-reads n s input
-        ∙ sym (ap (bodyPrinted s n) (first .same) ∙ body-malformed s n (text ++ (b ∷ first .piece)) (first .pieces) (reads-wrong text line b (first .piece) r k))
+        ∙ sym (ap (bodyPrinted s n) (first .same)
+        ∙ body-malformed s n (text ++ (b ∷ first .piece)) (first .pieces) (reads-wrong text line b (first .piece) r k))
 
     body-next : (t : Bool) → eqb b newline ≡ t
         → wholeRead (readerOf n (Body line)) s (b ∷ input) ≡ bodyPrinted s n (lines (text ++ (b ∷ input)))

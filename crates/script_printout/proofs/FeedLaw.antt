@@ -55,7 +55,8 @@ module _ (r : Reader) (s : Box) (piece out : List ℕ) where
     unfolding fed
     feeding-end fits h = (
       ap (λ (x : Placed). record { taken = true; placed = x })
-          (placed-text p (p .reader) t (f .printed) out now 0 refl (f .stands) (f .end ∙ sym (zero-add (length (f .printed)))) ∙ ap (placed out 0) (sym (done h)))
+          (placed-text p (p .reader) t (f .printed) out now 0 refl (f .stands) (f .end ∙ sym (zero-add (length (f .printed))))
+          ∙ ap (placed out 0) (sym (done h)))
           ∙ sym (rw (le-leb (length piece * mostPrinted) (length out) fits, fed)),
       omega (arith, f .room),
     )
@@ -84,9 +85,11 @@ module _ (r : Reader) (s : Box) (piece out : List ℕ) where
             let last = pieceRead (p' .reader) t' (drop (i + 1) piece) in
             record {
               printed = f .printed ++ step .printed;
-              stands = replaced-next out now (f .printed) (step .printed) now' (p .end) (f .stands) (f .end) (omega (arith, f .room, behind, w .1, below)) (ap (λ (x : Placed). x .out) (w .0));
+              stands = replaced-next out now (f .printed) (step .printed) now' (p .end) (f .stands) (f .end)
+                  (omega (arith, f .room, behind, w .1, below)) (ap (λ (x : Placed). x .out) (w .0));
               end = behind ∙ omega (arith, f .end, length-append (f .printed) (step .printed));
-              rest = f .rest ∙ ap (after (f .printed)) goes-on ∙ ap (printing (last .reader) (last .box)) (sym (append-assoc (f .printed) (step .printed) (last .printed)));
+              rest = f .rest ∙ ap (after (f .printed)) goes-on
+                  ∙ ap (printing (last .reader) (last .box)) (sym (append-assoc (f .printed) (step .printed) (last .printed)));
               within = omega (arith, below);
               room = omega (arith, f .room, w .1, below);
             }

@@ -40,8 +40,10 @@ lacks (b ∷ l) = not (eqb b newline) && lacks l
 
 plain-test : (l : List ℕ) → lacks l ≡ true → Without newline l
 plain-test [] e = tt
-plain-test (b ∷ l) e =
-    (eqb-false b newline (not-true (eqb b newline) (and-elim-left (not (eqb b newline)) (lacks l) e)), plain-test l (and-elim-right (not (eqb b newline)) (lacks l) e))
+plain-test (b ∷ l) e = (
+  eqb-false b newline (not-true (eqb b newline) (and-elim-left (not (eqb b newline)) (lacks l) e)),
+  plain-test l (and-elim-right (not (eqb b newline)) (lacks l) e),
+)
 
 plain-part : (k : ℕ) (l : List ℕ) → Without newline l → Without newline (take k l)
 plain-part zero l w = tt
@@ -138,7 +140,9 @@ module _ (b : ℕ) (input : List ℕ) (k : ℕ) (s : Box) (h : k ≤ length head
         whole-next (readerOf 1 (Header k)) s b input (printing (readerOf 1 (Header (k + 1))) s []) (header-next 1 k s b n below same)
         ∙ again below
         ∙ ap (λ (x : List ℕ). linesPrinted s (lines x))
-        (ap (λ (m : ℕ). take m header ++ input) (add-one k) ∙ ap (λ (x : List ℕ). x ++ input) (take-suc header k 0 below) ∙ append-assoc (take k header) (getD header k 0 ∷ []) input ∙ ap (λ (c : ℕ). take k header ++ (c ∷ input)) same)
+        (ap (λ (m : ℕ). take m header ++ input) (add-one k) ∙ ap (λ (x : List ℕ). x ++ input) (take-suc header k 0 below)
+        ∙ append-assoc (take k header) (getD header k 0 ∷ []) input
+        ∙ ap (λ (c : ℕ). take k header ++ (c ∷ input)) same)
 
     header-byte : (t : Bool) → eqb b newline ≡ t → Printed
     header-byte true e = header-ends (eqb-true b newline e) (eqb k (length header)) refl

@@ -32,7 +32,8 @@ unfolding placed
 placed-text p r s text out after at e f g = cc
 
 -- nothing is
-pub placed-none : (p : Progress) (r : Reader) (s : Box) (out : List ℕ) (at : ℕ) → p .reader ≡ r → p .end ≡ at → placedOf p s out ≡ placed out at (printing r s [])
+pub placed-none : (p : Progress) (r : Reader) (s : Box) (out : List ℕ) (at : ℕ) → p .reader ≡ r → p .end ≡ at
+    → placedOf p s out ≡ placed out at (printing r s [])
 placed-none p r s out at e f = placed-text p r s [] out out at e (sym (replaced-none out at)) (f ∙ sym (add-zero at))
 
 -- ---- on every box, and within a line
@@ -58,7 +59,8 @@ pub prints-heading : (number k : ℕ) (out : List ℕ) (at : ℕ) (p : Progress)
 prints-heading number k out at p after h e w =
     (λ s. placed-text p _ s _ out after at e (w .0) (w .1) ∙ ap (placed out at) (sym (header-whole number k s h)), omega (arith, w .1, heading-size))
 
-pub prints-none : (step : Box → Printing) (r : Reader) (out : List ℕ) (at : ℕ) (p : Progress) → p .reader ≡ r → p .end ≡ at → ((s : Box) → step s ≡ printing r s [])
+pub prints-none : (step : Box → Printing) (r : Reader) (out : List ℕ) (at : ℕ) (p : Progress) → p .reader ≡ r → p .end ≡ at
+    → ((s : Box) → step s ≡ printing r s [])
     → Prints step out at p out
 prints-none step r out at p e f g =
     (λ s. placed-none p r s out at e f ∙ ap (placed out at) (sym (g s)), omega (arith, f))
@@ -80,7 +82,8 @@ pub prints-none-on : (q : Printing) (r : Reader) (out : List ℕ) (at : ℕ) (p 
     → PrintsOn q out at p s out
 prints-none-on q r out at p s e f g = (placed-none p r s out at e f ∙ ap (placed out at) (sym g), omega (arith, f))
 
-pub prints-line : (number : ℕ) (line : Line) (v : Values) (s : Box) (memory disk : List ℕ) (shown : Shown) (out : List ℕ) (at : ℕ) (p : Progress) (after : List ℕ)
+pub prints-line : (number : ℕ) (line : Line) (v : Values) (s : Box) (memory disk : List ℕ) (shown : Shown) (out : List ℕ) (at : ℕ) (p : Progress)
+    (after : List ℕ)
     → judged line ≡ Right v → ranOf memory disk shown ≡ ranLine s v → p .reader ≡ readerBehind number
     → (after ≡ replaced out at (lineShown v shown)) × ((p .end ≡ at + length (lineShown v shown)) × (p .end ≤ at + mostPrinted))
     → PrintsOn (lineEnd number line s) out at p (boxOf memory disk) after

@@ -149,7 +149,10 @@ wholeRead r s input = pieceRead r s input .printed ++ inputEnd (pieceRead r s in
 pub whole-next : (r : Reader) (s : Box) (b : ℕ) (input : List ℕ) (p : Printing) → byteRead r s b ≡ p
     → wholeRead r s (b ∷ input) ≡ p .printed ++ wholeRead (p .reader) (p .box) input
 unfolding pieceRead
-whole-next r s b input p e = rw (e, pieceRead) (append-assoc (p .printed) (pieceRead (p .reader) (p .box) input .printed) (inputEnd (pieceRead (p .reader) (p .box) input .reader) (pieceRead (p .reader) (p .box) input .box) .printed))
+whole-next r s b input p e =
+    rw (e, pieceRead)
+    (append-assoc (p .printed) (pieceRead (p .reader) (p .box) input .printed)
+    (inputEnd (pieceRead (p .reader) (p .box) input .reader) (pieceRead (p .reader) (p .box) input .box) .printed))
 
 pub piece-append : (r : Reader) (s : Box) (x y : List ℕ)
     → pieceRead r s (x ++ y) ≡ after (pieceRead r s x .printed) (pieceRead (pieceRead r s x .reader) (pieceRead r s x .box) y)

@@ -99,14 +99,20 @@ restart c =
     let called = c .before .before .before .before in
     let told = called .before .before .before in
     let start = told .before .before .before .before .before .before .before in
-    carried σ (start .args .k) Restart (box start) (given start) (start .args .time) _ (told .enum-told5 .given .1) (called .restart .ensures (start .args .disk .now))
+    carried σ (start .args .k) Restart (box start) (given start) (start .args .time) _ (told .enum-told5 .given .1)
+    (called .restart .ensures (start .args .disk .now))
 
 new-salt-requires : tie.Need-new-salt-requires
 new-salt-requires c κs =
     let told = c .before .before .before in
     let start = told .before .before .before .before .before .before .before in
-    let h = asked start NewSalt (told .enum-told6 .given .1) in
-    (sound σ NewSalt (box start) (given start) h, (passed σ NewSalt (box start) (given start) h .early, (passed σ NewSalt (box start) (given start) h .content, passed σ NewSalt (box start) (given start) h .answer)))
+    let h = asked start NewSalt (told .enum-told6 .given .1) in (
+      sound σ NewSalt (box start) (given start) h,
+      (
+        passed σ NewSalt (box start) (given start) h .early,
+        (passed σ NewSalt (box start) (given start) h .content, passed σ NewSalt (box start) (given start) h .answer),
+      ),
+    )
 
 new-salt : tie.Need-returns-7
 unfolding effect
@@ -129,7 +135,8 @@ identify c =
     let called = c .before .before .before .before in
     let told = called .before .before .before in
     let start = told .before .before .before .before .before .before .before in
-    carried σ (start .args .k) Identify (box start) (given start) (start .args .time) _ (told .enum-told7 .given .1) (called .identify .ensures (start .args .disk .now))
+    carried σ (start .args .k) Identify (box start) (given start) (start .args .time) _ (told .enum-told7 .given .1)
+    (called .identify .ensures (start .args .disk .now))
 
 change-requires : tie.Need-change-requires
 change-requires c κs =
@@ -159,6 +166,11 @@ unknown c =
 pub carry-out-spec : {M : Type 1} → statement M
 carry-out-spec =
     tie.close
-    (tie.spec (λ c. search needs) read-requires (λ c. search needs) entry-requires (λ c. search needs) page-requires (λ c. search needs) change-requires (λ c. search needs) sync-requires (λ c. search needs) restart-requires (λ c. search needs) new-salt-requires (λ c. search needs)
-    identify-requires (λ c. search needs) (λ c. search needs) (λ c. search needs) (λ c. search needs) read (λ c. search needs) (λ c. search needs) (λ c. search needs) entry (λ c. search needs) (λ c. search needs) (λ c. search needs) page (λ c. search needs) (λ c. search needs) (λ c. search needs) change (λ c. search needs) (λ c. search needs) (λ c. search needs) sync (λ c. search needs) (λ c. search needs) restart (λ c. search needs) (λ c. search needs) (λ c. search needs) new-salt (λ c. search needs) (λ c. search needs) identify
+    (tie.spec (λ c. search needs) read-requires (λ c. search needs) entry-requires (λ c. search needs) page-requires
+    (λ c. search needs) change-requires (λ c. search needs) sync-requires (λ c. search needs) restart-requires (λ c. search needs) new-salt-requires
+    (λ c. search needs)
+    identify-requires (λ c. search needs) (λ c. search needs) (λ c. search needs) (λ c. search needs) read (λ c. search needs) (λ c. search needs)
+    (λ c. search needs) entry (λ c. search needs) (λ c. search needs) (λ c. search needs) page (λ c. search needs) (λ c. search needs)
+    (λ c. search needs) change (λ c. search needs) (λ c. search needs) (λ c. search needs) sync (λ c. search needs) (λ c. search needs) restart
+    (λ c. search needs) (λ c. search needs) (λ c. search needs) new-salt (λ c. search needs) (λ c. search needs) identify
     unknown)

@@ -31,4 +31,5 @@ accepted c =
 pub command-spec : {M : Type 1} → statement M
 command-spec =
     tie.close
-    (tie.spec (λ c κs. search needs) (λ c κs. search needs) (λ c. search needs) (λ c. search needs) (λ c. search needs) refused carry-out-requires (λ c. search needs) (λ c. search needs) (λ c. search needs) accepted)
+    (tie.spec (λ c κs. search needs) (λ c κs. search needs) (λ c. search needs) (λ c. search needs) (λ c. search needs) refused carry-out-requires
+    (λ c. search needs) (λ c. search needs) (λ c. search needs) accepted)

@@ -11,7 +11,9 @@ use Rattle.controller.proofs.format.Statement.{statement}
 use Rattle.controller.proofs.format.Tie as tie
 
 -- what the questions have seen to
-known : (c : tie.Else1) → Formattable present (boxOf (c .before .before .before .before .before .before .before .args .memory .now) (c .before .before .before .before .before .before .before .args .disk .now)) (c .before .before .before .before .before .before .before .args .groups) (c .before .before .before .before .before .before .before .args .salt .now)
+known : (c : tie.Else1)
+    → let x = c .before .before .before .before .before .before .before .args in
+    Formattable present (boxOf (x .memory .now) (x .disk .now)) (x .groups) (x .salt .now)
 known c = formattable σ _ _ _ (sym (c .before .refusal .ensures) ∙ omega (arith, c .if1 .left))
 
 refused : tie.Need-returns
@@ -41,4 +43,5 @@ accepted c =
 pub format-spec : {M : Type 1} → statement M
 format-spec =
     tie.close
-    (tie.spec (λ c κs. search needs) (λ c. search needs) (λ c. search needs) refused format-requires store-requires (λ c. search needs) (λ c. search needs) accepted)
+    (tie.spec (λ c κs. search needs) (λ c. search needs) (λ c. search needs) refused format-requires store-requires (λ c. search needs)
+    (λ c. search needs) accepted)

@@ -8,8 +8,10 @@ use Rattle.form.proofs.refusal.Tie as tie
 
 -- the five answers
 answers : (c : tie.After-is-sized)
-    → Answers present (c .before .before .before .before .before .before .before .before .before .before .before .args .k) (c .before .before .before .before .before .before .before .before .before .before .before .args .memory .now) (c .before .before .before .before .before .before .before .before .before .before .before .args .disk .now) (c .before .before .before .before .before .before .before .before .before .before .before .args .block) (c .before .before .before .before .before .before .before .before .before .before .before .args .time) (c .before .before .before .before .before .before .before .before .before .before .before .args .content .now) (c .before .before .before .before .before .before .before .before .before .before .before .args .proof .now) (c .before .before .before .before .before .before .before .before .before .before .before .args .answer .now)
-    (c .before .before .before .before .before .disk-fits .result) (c .before .before .before .before .is-known .result) (c .before .before .before .is-timely .result) (c .before .is-inside .result) (c .is-sized .result)
+    → let x = c .before .before .before .before .before .before .before .before .before .before .before .args in
+    Answers present (x .k) (x .memory .now) (x .disk .now) (x .block) (x .time) (x .content .now) (x .proof .now) (x .answer .now)
+    (c .before .before .before .before .before .disk-fits .result) (c .before .before .before .before .is-known .result)
+    (c .before .before .before .is-timely .result) (c .before .is-inside .result) (c .is-sized .result)
 answers c =
     let x = c .before .before .before .before .before .before .before .before .before .before .before .args in
     record {
@@ -30,13 +32,17 @@ time : tie.Need-returns-3
 time c = no-4 σ _ _ _ _ _ _ _ _ _ _ _ _ _ (answers (c .before .before .before)) (c .before .before .if1 .left) (c .before .if2 .left) (c .if3 .taken)
 
 address : tie.Need-returns-4
-address c = no-5 σ _ _ _ _ _ _ _ _ _ _ _ _ _ (answers (c .before .before .before .before)) (c .before .before .before .if1 .left) (c .before .before .if2 .left) (c .before .if3 .left) (c .if4 .taken)
+address c = no-5 σ _ _ _ _ _ _ _ _ _ _ _ _ _ (answers (c .before .before .before .before)) (c .before .before .before .if1 .left)
+    (c .before .before .if2 .left) (c .before .if3 .left) (c .if4 .taken)
 
 lengths : tie.Need-returns-5
-lengths c = no-6 σ _ _ _ _ _ _ _ _ _ _ _ _ _ (answers (c .before .before .before .before .before)) (c .before .before .before .before .if1 .left) (c .before .before .before .if2 .left) (c .before .before .if3 .left) (c .before .if4 .left) (c .if5 .taken)
+lengths c = no-6 σ _ _ _ _ _ _ _ _ _ _ _ _ _ (answers (c .before .before .before .before .before)) (c .before .before .before .before .if1 .left)
+    (c .before .before .before .if2 .left) (c .before .before .if3 .left) (c .before .if4 .left) (c .if5 .taken)
 
 none : tie.Need-returns-6
-none c = none-no σ _ _ _ _ _ _ _ _ _ _ _ _ _ (answers (c .before .before .before .before .before)) (c .before .before .before .before .if1 .left) (c .before .before .before .if2 .left) (c .before .before .if3 .left) (c .before .if4 .left) (c .if5 .left)
+none c = none-no σ _ _ _ _ _ _ _ _ _ _ _ _ _ (answers (c .before .before .before .before .before)) (c .before .before .before .before .if1 .left)
+    (c .before .before .before .if2 .left) (c .before .before .if3 .left) (c .before .if4 .left) (c .if5 .left)
 
 pub refusal-spec : {M : Type 1} → statement M
-refusal-spec = tie.close (tie.spec (λ c κs. search needs) (λ c κs. search needs) (λ c κs. search needs) (λ c κs. search needs) (λ c κs. search needs) (λ c κs. search needs) disk kind time address lengths none)
+refusal-spec = tie.close (tie.spec (λ c κs. search needs) (λ c κs. search needs) (λ c κs. search needs) (λ c κs. search needs) (λ c κs. search needs)
+    (λ c κs. search needs) disk kind time address lengths none)

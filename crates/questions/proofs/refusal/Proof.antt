@@ -41,7 +41,9 @@ form c =
     (c .before .refusal .ensures) (c .if2 .taken)
 
 -- the first six have yes
-passed : (c : tie.Else2) → Formed present (c .before .before .before .before .before .before .before .before .before .args .k) (box (c .before .before .before .before .before .before .before .before .before)) (given (c .before .before .before .before .before .before .before .before .before))
+passed : (c : tie.Else2)
+    → let start = c .before .before .before .before .before .before .before .before .before in
+    Formed present (start .args .k) (box start) (given start)
 passed c =
     let first = c .before .before in
     let start = first .before .before .before .before .before .before .before in
@@ -92,5 +94,6 @@ salt c = salt-left σ _ _ _ (passed (c .before .before .before)) _ (c .before .e
 pub refusal-spec : {M : Type 1} → statement M
 refusal-spec =
     tie.close
-    (tie.spec (λ c κs. search needs) invalid (λ c κs. size c) form (λ c. search needs) (λ c. search needs) (λ c. search needs) (λ c. search needs) change-requires (λ c. search needs) (λ c. search needs) (λ c. search needs)
+    (tie.spec (λ c κs. search needs) invalid (λ c κs. size c) form (λ c. search needs) (λ c. search needs) (λ c. search needs)
+    (λ c. search needs) change-requires (λ c. search needs) (λ c. search needs) (λ c. search needs)
     (λ c κs. size (c .before .before .before .before)) (λ c. search needs) (λ c. search needs) read entry page change sync restart salt identify unknown)

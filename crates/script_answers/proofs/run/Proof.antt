@@ -51,9 +51,11 @@ with-page c =
     let x = found .before .args in
     let n = asked .before .content-length in
     ran-page (x .memory .now) (x .disk .now) (x .v) _ _ _ _ (found .kind-numbered .ensures) (n .ensures) (asked .proof-length .ensures)
-    (content-of _ _ (within (found .kind-numbered .result) _ (n .ensures))) (passed .if1 .left) _ _ (got .get-page .ensures .0) (got .get-page .ensures .1) _ (c .send2 .ensures)
+    (content-of _ _ (within (found .kind-numbered .result) _ (n .ensures))) (passed .if1 .left) _ _ (got .get-page .ensures .0)
+    (got .get-page .ensures .1) _ (c .send2 .ensures)
 
 pub run-spec : {M : Type 1} → statement M
 run-spec =
     tie.close
-    (tie.spec (λ c κs. search needs) (λ c. search needs) (λ c κs. search needs) (λ c κs. search needs) share count (λ c. search needs) (λ c κs. search needs) plain get-page-requires share-2 count-2 count-3 (λ c κs. search needs) with-page)
+    (tie.spec (λ c κs. search needs) (λ c. search needs) (λ c κs. search needs) (λ c κs. search needs) share count (λ c. search needs)
+    (λ c κs. search needs) plain get-page-requires share-2 count-2 count-3 (λ c κs. search needs) with-page)

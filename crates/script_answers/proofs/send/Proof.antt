@@ -47,4 +47,5 @@ entry c =
 pub send-spec : {M : Type 1} → statement M
 send-spec =
     tie.close
-    (tie.spec (λ c. search needs) (λ c κs. search needs) other refused (λ c. search needs) (λ c. search needs) (λ c κs. search needs) (λ c. search needs) (λ c κs. search needs) entry)
+    (tie.spec (λ c. search needs) (λ c κs. search needs) other refused (λ c. search needs) (λ c. search needs) (λ c κs. search needs)
+    (λ c. search needs) (λ c κs. search needs) entry)

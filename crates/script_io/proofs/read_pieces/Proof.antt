@@ -23,4 +23,5 @@ pub read-pieces-spec : {M : Type 1} → statement M
 read-pieces-spec =
     tie.close
     (tie.spec Inv-loop μ-loop (λ c κs. search needs) (λ c. (refl, refl)) (λ c κs. search needs) (λ c. search needs) (λ c. omega arith)
-    loop-again (λ c. c .before .before .loop .inv .0) (λ c. c .before .before .loop .inv .1) (λ c. search needs) (λ c. c .before .loop .inv .0) (λ c. c .before .loop .inv .1) (λ c. search needs))
+    loop-again (λ c. c .before .before .loop .inv .0) (λ c. c .before .before .loop .inv .1) (λ c. search needs) (λ c. c .before .loop .inv .0)
+    (λ c. c .before .loop .inv .1) (λ c. search needs))

@@ -8,7 +8,8 @@ use Rattle.questions.proofs.change.refusal.Tie as tie
 
 -- the four answers
 answers : (c : tie.After-within-limit)
-    → Answers present (c .before .before .before .before .before .before .before .before .before .args .u) (c .before .before .before .before .before .before .before .before .before .args .memory .now) (c .before .before .before .before .before .before .before .before .before .args .block) (c .before .before .before .before .before .before .before .before .before .args .time) (c .before .before .before .before .before .before .before .before .before .args .proof .now) (c .before .before .before .before .matches .result)
+    → let x = c .before .before .before .before .before .before .before .before .before .args in
+    Answers present (x .u) (x .memory .now) (x .block) (x .time) (x .proof .now) (c .before .before .before .before .matches .result)
     (c .before .before .before .is-unspent .result) (c .before .allowed .result) (c .within-limit .result)
 answers c =
     let x = c .before .before .before .before .before .before .before .before .before .args in
@@ -31,10 +32,13 @@ state : tie.Need-returns-3
 state c = no-9 σ _ _ _ _ _ _ _ _ _ (answers (c .before .before .before)) (c .before .before .if1 .left) (c .before .if2 .left) (c .if3 .taken)
 
 limit : tie.Need-returns-4
-limit c = no-10 σ _ _ _ _ _ _ _ _ _ (answers (c .before .before .before .before)) (c .before .before .before .if1 .left) (c .before .before .if2 .left) (c .before .if3 .left) (c .if4 .taken)
+limit c = no-10 σ _ _ _ _ _ _ _ _ _ (answers (c .before .before .before .before)) (c .before .before .before .if1 .left)
+    (c .before .before .if2 .left) (c .before .if3 .left) (c .if4 .taken)
 
 none : tie.Need-returns-5
-none c = none-no σ _ _ _ _ _ _ _ _ _ (answers (c .before .before .before .before)) (c .before .before .before .if1 .left) (c .before .before .if2 .left) (c .before .if3 .left) (c .if4 .left)
+none c = none-no σ _ _ _ _ _ _ _ _ _ (answers (c .before .before .before .before)) (c .before .before .before .if1 .left)
+    (c .before .before .if2 .left) (c .before .if3 .left) (c .if4 .left)
 
 pub refusal-spec : {M : Type 1} → statement M
-refusal-spec = tie.close (tie.spec (λ c κs. search needs) (λ c κs. search needs) (λ c κs. search needs) (λ c κs. search needs) (λ c κs. search needs) (λ c κs. search needs) (λ c κs. search needs) tag spent state limit none)
+refusal-spec = tie.close (tie.spec (λ c κs. search needs) (λ c κs. search needs) (λ c κs. search needs) (λ c κs. search needs) (λ c κs. search needs)
+    (λ c κs. search needs) (λ c κs. search needs) tag spent state limit none)

@@ -25,7 +25,8 @@ whole c =
     let put = c .before .before .before in
     let test = put .before .before in
     let x = test .before .before .args in
-    prints-heading (x .number) (x .k) (x .out .now) (x .at) _ _ (omega (arith, test .if1 .left, header-length)) (c .reader-behind .ensures) (put .put-heading .ensures)
+    prints-heading (x .number) (x .k) (x .out .now) (x .at) _ _ (omega (arith, test .if1 .left, header-length)) (c .reader-behind .ensures)
+    (put .put-heading .ensures)
 
 pub end-header-spec : {M : Type 1} → statement M
 end-header-spec =

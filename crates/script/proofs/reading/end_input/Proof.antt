@@ -12,7 +12,8 @@ header c =
     let ended = c .before .before in
     let found = ended .before .before .before in
     let x = found .before .before .before .args in
-    prints-on _ _ (x .out .now) 0 _ (boxOf (x .memory .now) (x .disk .now)) _ (ended .end-header .ensures) (sym (end-header (x .reader) _ _ (found .stage .given .1)))
+    prints-on _ _ (x .out .now) 0 _ (boxOf (x .memory .now) (x .disk .now)) _ (ended .end-header .ensures)
+    (sym (end-header (x .reader) _ _ (found .stage .given .1)))
 
 body : tie.Need-returns-2
 body c =
@@ -30,4 +31,5 @@ none c =
 pub end-input-spec : {M : Type 1} → statement M
 end-input-spec =
     tie.close
-    (tie.spec (λ c. search needs) (λ c κs. search needs) (λ c. search needs) (λ c κs. search needs) (λ c. search needs) (λ c. search needs) header (λ c. search needs) body none)
+    (tie.spec (λ c. search needs) (λ c κs. search needs) (λ c. search needs) (λ c κs. search needs) (λ c. search needs) (λ c. search needs) header
+    (λ c. search needs) body none)

@@ -35,4 +35,5 @@ wrong c =
 pub read-body-spec : {M : Type 1} → statement M
 read-body-spec =
     tie.close
-    (tie.spec (λ c κs. search needs) (λ c. search needs) ends (λ c κs. search needs) (λ c. search needs) (λ c. search needs) (λ c κs. search needs) going (λ c. search needs) wrong)
+    (tie.spec (λ c κs. search needs) (λ c. search needs) ends (λ c κs. search needs) (λ c. search needs) (λ c. search needs)
+    (λ c κs. search needs) going (λ c. search needs) wrong)

@@ -22,7 +22,9 @@ wrong c =
     let test = stopped .before .before in
     let asked = test .before in
     let x = asked .before .before .before .args in
-    prints-as _ _ (x .out .now) (x .at) _ _ (stopped .stop .ensures) (λ s. sym (header-differs (x .number) (x .k) s (x .byte) (asked .before .if1 .left) (sym (asked .is-header-byte .ensures) ∙ not-true _ (test .if2 .taken))))
+    prints-as _ _ (x .out .now) (x .at) _ _ (stopped .stop .ensures)
+    (λ s.
+    sym (header-differs (x .number) (x .k) s (x .byte) (asked .before .if1 .left) (sym (asked .is-header-byte .ensures) ∙ not-true _ (test .if2 .taken))))
 
 add-t12 : tie.Need-add-t12
 add-t12 c =
@@ -33,7 +35,8 @@ follows : tie.Need-returns-3
 follows c =
     let asked = c .before in
     let x = asked .before .before .before .args in
-    prints-none _ _ (x .out .now) (x .at) _ refl refl (λ s. header-follows (x .number) (x .k) s (x .byte) (asked .before .if1 .left) (sym (asked .is-header-byte .ensures) ∙ not-false _ (c .if2 .left)))
+    prints-none _ _ (x .out .now) (x .at) _ refl refl (λ s. header-follows (x .number) (x .k) s (x .byte) (asked .before .if1 .left)
+    (sym (asked .is-header-byte .ensures) ∙ not-false _ (c .if2 .left)))
 
 pub read-header-spec : {M : Type 1} → statement M
 read-header-spec =
