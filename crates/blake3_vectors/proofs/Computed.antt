@@ -7,5 +7,6 @@ use Rattle.blake3.specs.Blake3 as B
 use Rattle.blake3_vectors.specs.Published.{Published, input, spelled}
 
 pub published : Published
-unfolding input spelled part repeated number bytes C.rotr C.G C.ofColumns C.ofDiagonals C.mixed C.columns C.diagonals C.round C.permuted C.rounds C.initial C.output C.compress B.block B.blocks B.words B.message B.flags B.chain B.chunk B.parent B.largest B.leftSize B.tree B.subtree B.bytesOf B.digest
+unfolding input spelled part repeated number bytes C.rotr C.G C.ofColumns C.ofDiagonals C.mixed C.columns C.diagonals C.round C.permuted C.rounds
+    C.initial C.output C.compress B.block B.blocks B.words B.message B.flags B.chain B.chunk B.parent B.largest B.leftSize B.tree B.subtree B.bytesOf B.digest
 published = record { empty = refl; short = refl; blocks = refl; parent = refl; levels = refl }
