@@ -2,7 +2,6 @@
 use borrow.Author.Needs.{needs}
 use mathlib.Core.Path.{sym, _∙_}
 use native.Mathlib.Omega.{arith}
-use Rattle.script_printout.specs.Printout.{header}
 use Rattle.script_printout.proofs.TextLaw.{header-length, heading-size}
 use Rattle.script_printout.proofs.ReaderLaw.{header-short}
 use Rattle.script_printout.proofs.PlaceLaw.{prints-as, prints-heading}
