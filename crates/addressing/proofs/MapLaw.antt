@@ -6,7 +6,7 @@ use native.Mathlib.Omega.{arith}
 use Rattle.lockpage.specs.Geometry.{Geometry, Proper}
 use Rattle.lockpage.specs.Size.{blockSize}
 use Rattle.addressing.specs.Map.{groupData, groupBlocks, groupSize, diskSize, dataBlocks, groupOf, placeOf, pagePlace, physical, pageBlock, groupStart, blockStart}
-use Rattle.addressing.specs.Claims.{InStretch}
+use Rattle.addressing.specs.Claims.{InExtent}
 
 -- ---- products and quotients, of any numbers
 
@@ -113,9 +113,9 @@ module _ {γ : Geometry} (σ : Proper γ) where
   unfolding groupStart diskSize
   groupStart-below groups g h = omega (arith, grows (groupSize γ) g groups h)
 
-  pub in-stretch : (groups k : ℕ) → k < diskSize γ groups → InStretch γ groups k
+  pub in-extent : (groups k : ℕ) → k < diskSize γ groups → InExtent γ groups k
   unfolding diskSize groupStart
-  in-stretch groups k h =
+  in-extent groups k h =
       record {
         group = k / groupSize γ;
         of-box = div-lt-iff-lt-mul {k = groupSize γ} (omega arith) .1 h;

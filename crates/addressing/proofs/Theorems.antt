@@ -4,11 +4,11 @@ use mathlib.Core.Path.{refl, ap, _∙_}
 use native.Mathlib.Omega.{arith}
 use Rattle.lockpage.specs.Geometry.{Geometry, Proper}
 use Rattle.addressing.specs.Map.{groupOf, placeOf, pagePlace, blockStart}
-use Rattle.addressing.specs.Claims.{PapersSizes, Inside, Apart, Within, StretchesApart, StretchesCover}
-use Rattle.addressing.proofs.MapLaw.{placeOf-below, physical-place, pageBlock-place, physical-below, pageBlock-below, physical-same, pageBlock-same, physical-page, blockStart-end, blockStart-group, groupStart-apart, in-stretch}
+use Rattle.addressing.specs.Claims.{PapersDiskSizes, Inside, Apart, Within, ExtentsApart, ExtentsCover}
+use Rattle.addressing.proofs.MapLaw.{placeOf-below, physical-place, pageBlock-place, physical-below, pageBlock-below, physical-same, pageBlock-same, physical-page, blockStart-end, blockStart-group, groupStart-apart, in-extent}
 
-pub papers-sizes : PapersSizes
-papers-sizes = record { data-blocks = refl; blocks = refl; bytes = refl }
+pub papers-disk-sizes : PapersDiskSizes
+papers-disk-sizes = record { data-blocks = refl; blocks = refl; bytes = refl }
 
 -- γ is any proper geometry
 module _ {γ : Geometry} (σ : Proper γ) where
@@ -29,10 +29,10 @@ module _ {γ : Geometry} (σ : Proper γ) where
         page-last = omega arith;
       }
 
-  pub stretches-apart : StretchesApart γ
-  unfolding StretchesApart
-  stretches-apart = groupStart-apart σ
+  pub extents-apart : ExtentsApart γ
+  unfolding ExtentsApart
+  extents-apart = groupStart-apart σ
 
-  pub stretches-cover : StretchesCover γ
-  unfolding StretchesCover
-  stretches-cover = in-stretch σ
+  pub extents-cover : ExtentsCover γ
+  unfolding ExtentsCover
+  extents-cover = in-extent σ

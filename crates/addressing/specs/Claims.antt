@@ -6,7 +6,7 @@ use Rattle.lockpage.specs.Size.{blockSize}
 use Rattle.addressing.specs.Map.{groupData, groupBlocks, groupSize, diskSize, dataBlocks, groupOf, placeOf, pagePlace, physical, pageBlock, groupStart, blockStart}
 
 -- document 01's sizes: "A group is 64 data blocks and then one lock page"; "its disk is G × 33,280 bytes"
-pub record PapersSizes : Type 0 where
+pub record PapersDiskSizes : Type 0 where
   pub data-blocks : groupData base ≡ 64
   pub blocks : groupBlocks base ≡ 65
   pub bytes : groupSize base ≡ 33280
@@ -25,23 +25,23 @@ module _ (γ : Geometry) where
     pub pages : (g h : ℕ) → pageBlock γ g ≡ pageBlock γ h → g ≡ h
     pub data-and-page : (a g : ℕ) → physical γ a ≡ pageBlock γ g → ⊥
 
-  -- a data block's place on the disk is its group's stretch plus its offset within the group, and so is a page's
+  -- a data block's place on the disk is its group's extent plus its offset within the group, and so is a page's
   pub record Within : Type 0 where
     pub data-block : (a : ℕ) → blockStart γ (physical γ a) ≡ groupStart γ (groupOf γ a) + blockStart γ (placeOf γ a)
     pub data-place : (a : ℕ) → placeOf γ a < pagePlace γ
     pub page : (g : ℕ) → blockStart γ (pageBlock γ g) ≡ groupStart γ g + blockStart γ (pagePlace γ)
     pub page-last : blockStart γ (pagePlace γ) + blockSize γ ≡ groupSize γ
 
-  -- the stretches of two groups are disjoint
-  unfoldable pub StretchesApart : Type 0
-  StretchesApart = (g h : ℕ) → g < h → groupStart γ g + groupSize γ ≤ groupStart γ h
+  -- the extents of two groups are disjoint
+  unfoldable pub ExtentsApart : Type 0
+  ExtentsApart = (g h : ℕ) → g < h → groupStart γ g + groupSize γ ≤ groupStart γ h
 
-  -- and they cover the disk: byte k is in the stretch of a group of the box
-  pub record InStretch (groups k : ℕ) : Type 0 where
+  -- and they cover the disk: byte k is in the extent of a group of the box
+  pub record InExtent (groups k : ℕ) : Type 0 where
     pub group : ℕ
     pub of-box : group < groups
     pub starts : groupStart γ group ≤ k
     pub ends : k < groupStart γ group + groupSize γ
 
-  unfoldable pub StretchesCover : Type 0
-  StretchesCover = (groups k : ℕ) → k < diskSize γ groups → InStretch groups k
+  unfoldable pub ExtentsCover : Type 0
+  ExtentsCover = (groups k : ℕ) → k < diskSize γ groups → InExtent groups k

@@ -59,7 +59,7 @@ pub fn page_block(group: u32) -> usize
     GROUP_BLOCKS * group as usize + PAGE_PLACE
 }
 
-// The first byte of a group's stretch of the disk.
+// The first byte of a group's extent of the disk.
 pub fn group_start(group: u32) -> usize
     ensures { λ r. ⌜ r ≡ groupStart present group ⌝ }
 {

@@ -1,3 +1,3 @@
 -- The laws that proofs here and in the crates above cite.
-pub mod RoomLaw
+pub mod TailLaw
 pub mod ShowLaw

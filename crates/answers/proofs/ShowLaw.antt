@@ -24,7 +24,7 @@ use Rattle.lockpage.proofs.StateLaw.{timeLeftBytes-length, stateNumber-byte}
 use Rattle.addressing.specs.Map.{diskSize, dataBlocks, groupOf, placeOf, physical, pageBlock}
 use Rattle.addressing.proofs.MapLaw.{physical-below}
 use Rattle.disk.specs.Disk.{block}
-use Rattle.disk.proofs.DiskLaw.{block-length, block-room}
+use Rattle.disk.proofs.DiskLaw.{block-length, block-within}
 use Rattle.memory.specs.Layout.{memorySize, timeSize}
 use Rattle.memory.specs.Memory.{groups, held, heldPage, withLastTime}
 use Rattle.memory.proofs.FieldLaw.{time-set}
@@ -34,7 +34,7 @@ use Rattle.machine.specs.Effect.{effectOf, stored, read, entryAnswer, showEntry
 use Rattle.machine.specs.Step.{padded, timed, done, accepted}
 use Rattle.machine.proofs.TagLaw.{tagged-length, current-held, current-other, current-length}
 use Rattle.machine.proofs.StepLaw.{outcome-of, padded-full}
-use Rattle.answers.proofs.RoomLaw.{tail-zeroed, named-stored}
+use Rattle.answers.proofs.TailLaw.{tail-zeroed, named-stored}
 
 -- γ is any proper geometry
 module _ {γ : Geometry} (σ : Proper γ) where
@@ -110,7 +110,7 @@ module _ {γ : Geometry} (σ : Proper γ) where
     read-outcome answer out r a ld h la eo er =
         let b = block γ disk (physical γ a) in
         let size : length b ≡ blockSize γ =
-        block-length σ disk (physical γ a) (block-room σ disk (groups γ m) (physical γ a) ld (physical-below σ (groups γ m) a h)) in
+        block-length σ disk (physical γ a) (block-within σ disk (groups γ m) (physical γ a) ld (physical-below σ (groups γ m) a h)) in
         shown m disk memory b r now em
         (tail-zeroed σ answer (out ++ drop (blockSize γ) answer) b r (blockSize γ) la (sym size) (omega arith)
         (lent-filled answer b out 0 (blockSize γ) size eo) er)

@@ -22,9 +22,9 @@ module _ (γ : Geometry) where
   abbrev pub Sound : List ℕ → List ℕ → Type 0
   Sound m disk = (valid γ m ≡ true) × (length disk ≡ diskSize γ (groups γ m))
 
-  -- of the room for the answer: question 6
-  abbrev pub Room : List ℕ → Type 0
-  Room answer = length answer ≡ answerSize γ
+  -- of the answer buffer: question 6
+  abbrev pub AnswerSized : List ℕ → Type 0
+  AnswerSized answer = length answer ≡ answerSize γ
 
   -- of what an update of block a brings: questions 4, 6, 8 and 10
   abbrev pub MayChange : Update → List ℕ → ℕ → ℕ → List ℕ → Type 0

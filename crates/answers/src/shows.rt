@@ -14,8 +14,8 @@ ghost use Rattle.machine.specs.Tag.{currentPage};
 ghost use Rattle.machine.specs.Effect.{entryAnswer, showEntry, showPage};
 ghost use Rattle.machine.specs.Effect as E;
 ghost use Rattle.machine.specs.Step.{padded, accepted};
-ghost use Rattle.answers.specs.Ready.{Sound, Room, OnEveryDisk};
-use crate::room;
+ghost use Rattle.answers.specs.Ready.{Sound, AnswerSized, OnEveryDisk};
+use crate::tail;
 use lockpage::Entry;
 use lockpage::PAGE_SIZE;
 use lockpage::states;
@@ -25,12 +25,12 @@ const IDENTIFY_SIZE: usize = 4;
 
 // Kind 1: a block.
 pub fn read(memory: &mut [u8], disk: &[u8], block: u32, time: u32, answer: &mut [u8])
-    requires { ⌜ Sound present (now memory) (now disk) × ((block < dataBlocks present (groups present (now memory))) × Room present (now answer)) ⌝ }
+    requires { ⌜ Sound present (now memory) (now disk) × ((block < dataBlocks present (groups present (now memory))) × AnswerSized present (now answer)) ⌝ }
     ensures { λ _. ⌜ outcomeOf 0 (now (memory .exit)) (now (disk .entry)) (now (answer .exit)) ≡ accepted present (λ s. E.read present s block) (boxOf (now (memory .entry)) (now (disk .entry))) time ⌝ }
 {
     memory::set_last_time(memory, time);
     disk::whole::read_block(disk, block, &mut answer[0..addressing::BLOCK_SIZE]);
-    room::zero_tail(answer, addressing::BLOCK_SIZE);
+    tail::zero_tail(answer, addressing::BLOCK_SIZE);
 }
 
 // A block's entry on the current page of its group.
@@ -52,7 +52,7 @@ fn answer_entry(answer: &mut [u8], e: Entry, time: u32)
     requires { ⌜ length (now answer) ≡ answerSize present ⌝ }
     ensures { λ _. ⌜ now (answer .exit) ≡ padded present (entryAnswer time e) ⌝ }
 {
-    room::zero_tail(answer, 0);
+    tail::zero_tail(answer, 0);
     lockpage::entries::store_entry(answer, 0, e);
     states::store_time_left(answer, lockpage::ENTRY_SIZE, e, time);
     let at = lockpage::ENTRY_SIZE + states::TIME_LEFT_SIZE;
@@ -61,7 +61,7 @@ fn answer_entry(answer: &mut [u8], e: Entry, time: u32)
 
 // Kind 2: a block's entry.
 pub fn show_entry(memory: &mut [u8], disk: &[u8], block: u32, time: u32, answer: &mut [u8])
-    requires { ⌜ Sound present (now memory) (now disk) × ((block < dataBlocks present (groups present (now memory))) × Room present (now answer)) ⌝ }
+    requires { ⌜ Sound present (now memory) (now disk) × ((block < dataBlocks present (groups present (now memory))) × AnswerSized present (now answer)) ⌝ }
     ensures { λ _. ⌜ outcomeOf 0 (now (memory .exit)) (now (disk .entry)) (now (answer .exit)) ≡ accepted present (λ s. showEntry present s block time) (boxOf (now (memory .entry)) (now (disk .entry))) time ⌝ }
 {
     memory::set_last_time(memory, time);
@@ -83,7 +83,7 @@ fn copy_current(memory: &[u8], disk: &[u8], group: u32, out: &mut [u8])
 
 // Kind 3: the current page of a group and its tag.
 pub fn show_page(memory: &mut [u8], disk: &[u8], group: u32, time: u32, answer: &mut [u8])
-    requires { ⌜ Sound present (now memory) (now disk) × ((group < groups present (now memory)) × Room present (now answer)) ⌝ }
+    requires { ⌜ Sound present (now memory) (now disk) × ((group < groups present (now memory)) × AnswerSized present (now answer)) ⌝ }
     ensures { λ _. ⌜ outcomeOf 0 (now (memory .exit)) (now (disk .entry)) (now (answer .exit)) ≡ accepted present (λ s. showPage present s group) (boxOf (now (memory .entry)) (now (disk .entry))) time ⌝ }
 {
     memory::set_last_time(memory, time);
@@ -93,7 +93,7 @@ pub fn show_page(memory: &mut [u8], disk: &[u8], group: u32, time: u32, answer: 
 
 // Kind 10: the numbers of groups and of data blocks, whatever the disk.
 pub fn identify(memory: &mut [u8], time: u32, answer: &mut [u8])
-    requires { ⌜ (length (now memory) ≡ memorySize present) × Room present (now answer) ⌝ }
+    requires { ⌜ (length (now memory) ≡ memorySize present) × AnswerSized present (now answer) ⌝ }
     ensures { λ _. ⌜ OnEveryDisk present (E.identify present) (now (memory .entry)) time (now (memory .exit)) (now (answer .exit)) ⌝ }
 {
     memory::set_last_time(memory, time);
@@ -104,5 +104,5 @@ pub fn identify(memory: &mut [u8], time: u32, answer: &mut [u8])
         IDENTIFY_SIZE,
         addressing::data_blocks(groups) as u32,
     );
-    room::zero_tail(answer, 2 * IDENTIFY_SIZE);
+    tail::zero_tail(answer, 2 * IDENTIFY_SIZE);
 }

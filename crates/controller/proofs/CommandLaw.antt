@@ -44,7 +44,7 @@ module _ {γ : Geometry} (σ : Proper γ) where
       → MayChange γ u (s .memory) (c .block) (c .now) (c .proof)
   may-change u s c h =
       let known = changes σ u s c h in
-      (passed σ (Change u) s c h .early, (known .proof, (known .unspent, known .within)))
+      (passed σ (Change u) s c h .early, (known .proof, (known .unexhausted, known .within)))
 
   -- an unknown kind is refused
   pub unknown-refused : (s : Box) (c : Command) → AllYes (questionsTo γ Unknown s c) → ⊥

@@ -13,7 +13,7 @@ use Rattle.lockpage.proofs.PageLaw.{blankPage-length}
 use Rattle.addressing.specs.Map.{diskSize, pageBlock}
 use Rattle.addressing.proofs.MapLaw.{pageBlock-below}
 use Rattle.disk.specs.Disk.{withBlock}
-use Rattle.disk.proofs.DiskLaw.{withBlock-length, block-room}
+use Rattle.disk.proofs.DiskLaw.{withBlock-length, block-within}
 use Rattle.memory.specs.Layout.{memorySize, saltSize}
 use Rattle.machine.specs.Command.{boxOf}
 use Rattle.machine.specs.Question.{Question, Put, firstNo}
@@ -102,5 +102,5 @@ module _ {γ : Geometry} (σ : Proper γ) where
       → r ≡ withBlock γ d (pageBlock γ g) page → length r ≡ diskSize γ groups
   page-fits d page r groups g l h ep er =
       ap length er
-      ∙ withBlock-length σ d (pageBlock γ g) page (ap length ep ∙ blankPage-length σ) (block-room σ d groups (pageBlock γ g) l (pageBlock-below σ groups g h))
+      ∙ withBlock-length σ d (pageBlock γ g) page (ap length ep ∙ blankPage-length σ) (block-within σ d groups (pageBlock γ g) l (pageBlock-below σ groups g h))
       ∙ l

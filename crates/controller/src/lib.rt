@@ -1,6 +1,6 @@
 // The controller: commands and formatting. No call has a precondition, and the contracts fix the number answered and every
 // byte of memory, disk and answer by the definitions of machine.
-mod formatting;
+mod blank_pages;
 
 ghost use mathlib.Core.Path.{_≡_};
 ghost use Rattle.lockpage.specs.Geometry.{present};
@@ -8,12 +8,13 @@ ghost use Rattle.machine.specs.Command.{boxOf, commandOf, outcomeOf};
 ghost use Rattle.machine.specs.Question.{questionsTo, firstNo};
 ghost use Rattle.machine.specs.Effect.{effect};
 ghost use Rattle.machine.specs.Step.{accepted, step};
-ghost use Rattle.machine.specs.Format.{formattingOf};
+ghost use Rattle.machine.specs.Format.{formatQuestions, formatOutcomeOf};
 ghost use Rattle.machine.specs.Format as F;
 use answers::shows;
 use effects::changes;
 use effects::upkeep;
 use machine::Kind;
+use memory::layout;
 
 // Carries out a command of kind k that no question refuses. Of the command's own kind and value the effects look only at k.
 fn carry_out(
@@ -56,7 +57,7 @@ pub fn command(
 ) -> u32
     ensures { λ r. ⌜ outcomeOf r (now (memory .exit)) (now (disk .exit)) (now (answer .exit)) ≡ step present (boxOf (now (memory .entry)) (now (disk .entry))) (commandOf kind block time value (now (content .entry)) (now (proof .entry)) (now (answer .entry))) ⌝ }
 {
-    let k = form::kinds::kind_numbered(kind, value);
+    let k = arguments::kinds::kind_numbered(kind, value);
     let number = questions::refusal(memory, disk, k, block, time, content, proof, answer);
     if number != machine::ACCEPTED {
         return number;
@@ -65,15 +66,37 @@ pub fn command(
     number
 }
 
+// The number of the first question that says no to formatting, or 0: the groups and the memory's size, the disk, the salt.
+fn format_refusal(memory: &[u8], disk: &[u8], groups: u32, salt: &[u8]) -> u32
+    ensures { λ r. ⌜ r ≡ firstNo (formatQuestions present (boxOf (now (memory .entry)) (now (disk .entry))) groups (now (salt .entry))) ⌝ }
+{
+    if groups < 1 {
+        return machine::MEMORY_INVALID;
+    }
+    if layout::MOST_GROUPS < groups {
+        return machine::MEMORY_INVALID;
+    }
+    if memory.len() != layout::MEMORY_SIZE {
+        return machine::MEMORY_INVALID;
+    }
+    if disk.len() != addressing::disk_size(groups) {
+        return machine::DISK_SIZE_WRONG;
+    }
+    if salt.len() != layout::SALT_SIZE {
+        return machine::LENGTH_WRONG;
+    }
+    machine::ACCEPTED
+}
+
 // Formats a box: its number; where that is not 0, no byte is changed.
 pub fn format(memory: &mut [u8], disk: &mut [u8], groups: u32, salt: &[u8]) -> u32
-    ensures { λ r. ⌜ formattingOf r (now (memory .exit)) (now (disk .exit)) ≡ F.format present (boxOf (now (memory .entry)) (now (disk .entry))) groups (now (salt .entry)) ⌝ }
+    ensures { λ r. ⌜ formatOutcomeOf r (now (memory .exit)) (now (disk .exit)) ≡ F.format present (boxOf (now (memory .entry)) (now (disk .entry))) groups (now (salt .entry)) ⌝ }
 {
-    let refusal = formatting::refusal(memory, disk, groups, salt);
+    let refusal = format_refusal(memory, disk, groups, salt);
     if refusal != machine::ACCEPTED {
         return refusal;
     }
     memory::format(memory, groups, salt);
-    formatting::store_blank_pages(disk, groups);
+    blank_pages::store_blank_pages(disk, groups);
     machine::ACCEPTED
 }

@@ -28,7 +28,7 @@ put-one l at n s h =
 
 -- the last digit of more: m has the others, and end is the place behind them
 pub record Rest (l : List ℕ) (at n : ℕ) (m : List ℕ) (end : ℕ) : Type 0 where
-  pub room : end < length m
+  pub inside : end < length m
   pub fits : end + 1 ≤ length l
   pub put : (set m end (zeroDigit + n % 10) ≡ replaced l at (decimal n)) × (end + 1 ≡ at + length (decimal n))
 
@@ -38,7 +38,7 @@ put-more l at n m end s h e =
     let d : List ℕ = (zeroDigit + n % 10) ∷ [] in
     let size : length m ≡ length l = ap length (e .0) ∙ replaced-length l at (decimal (n / 10)) (omega (arith, decimal-longer n s)) in
     record {
-      room = omega (arith, decimal-longer n s, e .1);
+      inside = omega (arith, decimal-longer n s, e .1);
       fits = omega (arith, decimal-longer n s, e .1);
       put = (
         replaced-sets m end d (omega (arith, decimal-longer n s, e .1))

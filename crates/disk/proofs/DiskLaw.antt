@@ -1,5 +1,5 @@
--- Laws of blocks and stretches: what is read after a store at the same place and at another, lengths, bytes, a block stored within a
--- stretch. Assumes nothing.
+-- Laws of blocks and extents: what is read after a store at the same place and at another, lengths, bytes, a block stored within a
+-- extent. Assumes nothing.
 use mathlib.Core.Path.{_≡_, ap, sym, _∙_}
 use mathlib.Core.Logic.{_⊎_, inl, inr}
 use mathlib.Core.List.{List}
@@ -14,21 +14,21 @@ use Rattle.octets.proofs.ReplacedLaw.{replaced-length, part-same, part-other, r
 use Rattle.lockpage.specs.Geometry.{Geometry, Proper}
 use Rattle.lockpage.specs.Size.{blockSize}
 use Rattle.addressing.specs.Map.{groupBlocks, groupSize, diskSize, dataBlocks, groupOf, groupStart, blockStart}
-use Rattle.disk.specs.Disk.{block, withBlock, stretch, withStretch, HasGroup}
+use Rattle.disk.specs.Disk.{block, withBlock, extent, withExtent, HasGroup}
 use Rattle.addressing.proofs.MapLaw.{blockStart-below, blockStart-end, blockStart-group, blockStart-place, groupStart-apart, groupStart-below, groupOf-below}
 
 -- γ is any proper geometry
 module _ {γ : Geometry} (σ : Proper γ) where
   -- ---- blocks
 
-  module _ (l : List ℕ) (q : ℕ) (new : List ℕ) (size : length new ≡ blockSize γ) (room : blockStart γ q + blockSize γ ≤ length l) where
+  module _ (l : List ℕ) (q : ℕ) (new : List ℕ) (size : length new ≡ blockSize γ) (inside : blockStart γ q + blockSize γ ≤ length l) where
     pub withBlock-length : length (withBlock γ l q new) ≡ length l
     unfolding withBlock
     withBlock-length = replaced-length l (blockStart γ q) new (omega arith)
 
     pub block-same : block γ (withBlock γ l q new) q ≡ new
     unfolding block withBlock
-    block-same = part-same l (blockStart γ q) new (blockSize γ) size room
+    block-same = part-same l (blockStart γ q) new (blockSize γ) size inside
 
     pub block-other : (p : ℕ) → (p ≡ q → ⊥) → block γ (withBlock γ l q new) p ≡ block γ l p
     unfolding block withBlock
@@ -51,11 +51,11 @@ module _ {γ : Geometry} (σ : Proper γ) where
   withBlock-are l p new b c = below-replaced 256 l (blockStart γ p) new b c
 
   -- a block below 65 × G has its bytes on the disk of G groups
-  pub block-room : (disk : List ℕ) (groups p : ℕ) → length disk ≡ diskSize γ groups → p < groupBlocks γ * groups
+  pub block-within : (disk : List ℕ) (groups p : ℕ) → length disk ≡ diskSize γ groups → p < groupBlocks γ * groups
       → blockStart γ p + blockSize γ ≤ length disk
-  block-room disk groups p l h = omega (arith, blockStart-below σ p (groupBlocks γ * groups) h, blockStart-end σ groups)
+  block-within disk groups p l h = omega (arith, blockStart-below σ p (groupBlocks γ * groups) h, blockStart-end σ groups)
 
-  -- ---- stretches
+  -- ---- extents
 
   pub hasGroup : (disk : List ℕ) (groups g : ℕ) → length disk ≡ diskSize γ groups → g < groups → HasGroup γ disk g
   unfolding HasGroup
@@ -66,35 +66,35 @@ module _ {γ : Geometry} (σ : Proper γ) where
   hasGroup-of disk groups a l h = hasGroup disk groups (groupOf γ a) l (groupOf-below σ groups a h)
 
   module _ (disk : List ℕ) (g : ℕ) (has : HasGroup γ disk g) where
-    pub stretch-length : length (stretch γ disk g) ≡ groupSize γ
-    unfolding stretch HasGroup
-    stretch-length = part-length disk (groupStart γ g) (groupSize γ) has
+    pub extent-length : length (extent γ disk g) ≡ groupSize γ
+    unfolding extent HasGroup
+    extent-length = part-length disk (groupStart γ g) (groupSize γ) has
 
-    pub stretch-same : (new : List ℕ) → length new ≡ groupSize γ → stretch γ (withStretch γ disk g new) g ≡ new
-    unfolding stretch withStretch HasGroup
-    stretch-same new s = part-same disk (groupStart γ g) new (groupSize γ) s has
+    pub extent-same : (new : List ℕ) → length new ≡ groupSize γ → extent γ (withExtent γ disk g new) g ≡ new
+    unfolding extent withExtent HasGroup
+    extent-same new s = part-same disk (groupStart γ g) new (groupSize γ) s has
 
-    pub stretch-other : (new : List ℕ) → length new ≡ groupSize γ → (h : ℕ) → (h ≡ g → ⊥)
-        → stretch γ (withStretch γ disk g new) h ≡ stretch γ disk h
-    unfolding stretch withStretch HasGroup
-    stretch-other new s h n = part-other disk (groupStart γ g) new (groupStart γ h) (groupSize γ) (omega arith) (go (apart h g n))
+    pub extent-other : (new : List ℕ) → length new ≡ groupSize γ → (h : ℕ) → (h ≡ g → ⊥)
+        → extent γ (withExtent γ disk g new) h ≡ extent γ disk h
+    unfolding extent withExtent HasGroup
+    extent-other new s h n = part-other disk (groupStart γ g) new (groupStart γ h) (groupSize γ) (omega arith) (go (apart h g n))
       where
         go : (h < g) ⊎ (g < h) → (groupStart γ h + groupSize γ ≤ groupStart γ g) ⊎ (groupStart γ g + length new ≤ groupStart γ h)
         go (inl k) = inl (groupStart-apart σ h g k)
         go (inr k) = inr (omega (arith, groupStart-apart σ g h k))
 
     module _ (place : ℕ) (h : place < groupBlocks γ) where
-      -- a block read within the stretch is read on the disk
-      pub block-in-stretch : block γ (stretch γ disk g) place ≡ block γ disk (groupBlocks γ * g + place)
-      unfolding block stretch
-      block-in-stretch =
+      -- a block read within the extent is read on the disk
+      pub block-in-extent : block γ (extent γ disk g) place ≡ block γ disk (groupBlocks γ * g + place)
+      unfolding block extent
+      block-in-extent =
           part-part disk (groupStart γ g) (groupSize γ) (blockStart γ place) (blockSize γ) (blockStart-place σ place h)
           ∙ ap (λ (at : ℕ). part disk at (blockSize γ)) (sym (blockStart-group σ g place))
 
-      -- a block stored within the stretch is stored on the disk
-      pub stored-in-stretch : (new : List ℕ) → length new ≡ blockSize γ
-          → withStretch γ disk g (withBlock γ (stretch γ disk g) place new) ≡ withBlock γ disk (groupBlocks γ * g + place) new
-      unfolding withBlock withStretch stretch HasGroup
-      stored-in-stretch new s =
+      -- a block stored within the extent is stored on the disk
+      pub stored-in-extent : (new : List ℕ) → length new ≡ blockSize γ
+          → withExtent γ disk g (withBlock γ (extent γ disk g) place new) ≡ withBlock γ disk (groupBlocks γ * g + place) new
+      unfolding withBlock withExtent extent HasGroup
+      stored-in-extent new s =
           replaced-within disk (groupStart γ g) (groupSize γ) (blockStart γ place) new has (omega (arith, blockStart-place σ place h))
           ∙ ap (λ (at : ℕ). replaced disk at new) (sym (blockStart-group σ g place))

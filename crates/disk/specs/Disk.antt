@@ -17,11 +17,11 @@ module _ (γ : Geometry) where
   withBlock l p new = replaced l (blockStart γ p) new
 
   -- "its own stretch of the disk": the bytes of group g; and they replaced
-  unfoldable pub stretch : List ℕ → ℕ → List ℕ
-  stretch disk g = part disk (groupStart γ g) (groupSize γ)
+  unfoldable pub extent : List ℕ → ℕ → List ℕ
+  extent disk g = part disk (groupStart γ g) (groupSize γ)
 
-  unfoldable pub withStretch : List ℕ → ℕ → List ℕ → List ℕ
-  withStretch disk g new = replaced disk (groupStart γ g) new
+  unfoldable pub withExtent : List ℕ → ℕ → List ℕ → List ℕ
+  withExtent disk g new = replaced disk (groupStart γ g) new
 
   -- the disk has group g
   unfoldable pub HasGroup : List ℕ → ℕ → Type 0

@@ -1,4 +1,4 @@
-// The blocks and the page of one group, by their places in its stretch of the disk.
+// The blocks and the page of one group, by their places in its extent of the disk.
 ghost use mathlib.Core.Path.{_≡_};
 ghost use Prim.Native.Nat.{_<_};
 ghost use lib.ListN.{length};
@@ -18,7 +18,7 @@ pub fn read_block(group: &[u8], place: usize, out: &mut [u8])
     octets::copy(group, from, out, 0, addressing::BLOCK_SIZE);
 }
 
-// Stores the block at a place: its part of the stretch is lent on to be written.
+// Stores the block at a place: its part of the extent is lent on to be written.
 pub fn store_block(group: &mut [u8], place: usize, content: &[u8])
     requires { ⌜ (place < groupBlocks present) × ((length (now group) ≡ groupSize present) × (length (now content) ≡ blockSize present)) ⌝ }
     ensures { λ _. ⌜ now (group .exit) ≡ withBlock present (now (group .entry)) place (now (content .entry)) ⌝ }

@@ -1,4 +1,4 @@
-// Data blocks and pages on the whole disk: a group's stretch is cut out and handed to the group's functions.
+// Data blocks and pages on the whole disk: a group's extent is cut out and handed to the group's functions.
 ghost use mathlib.Core.Path.{_≡_};
 ghost use Prim.Native.Nat.{_<_};
 ghost use lib.ListN.{length};
@@ -6,13 +6,13 @@ ghost use Rattle.lockpage.specs.Geometry.{present};
 ghost use Rattle.lockpage.specs.Size.{blockSize};
 ghost use Rattle.lockpage.specs.Page.{entryAt};
 ghost use Rattle.addressing.specs.Map.{groupOf, physical, pageBlock};
-ghost use Rattle.disk.specs.Disk.{block as blockAt, withBlock, stretch as stretchOf, HasGroup};
+ghost use Rattle.disk.specs.Disk.{block as blockAt, withBlock, extent as extentOf, HasGroup};
 use lockpage::Entry;
 
-// A group's stretch of the disk, to be read.
-pub fn stretch(disk: &[u8], group: u32) -> &[u8]
+// A group's extent of the disk, to be read.
+pub fn extent(disk: &[u8], group: u32) -> &[u8]
     requires { ⌜ HasGroup present (now disk) group ⌝ }
-    ensures { λ r. ⌜ now r ≡ stretchOf present (now (disk .entry)) group ⌝ }
+    ensures { λ r. ⌜ now r ≡ extentOf present (now (disk .entry)) group ⌝ }
 {
     let from = addressing::group_start(group);
     let to = from + addressing::GROUP_SIZE;
@@ -24,7 +24,7 @@ pub fn read_block(disk: &[u8], block: u32, out: &mut [u8])
     requires { ⌜ HasGroup present (now disk) (groupOf present block) × (length (now out) ≡ blockSize present) ⌝ }
     ensures { λ _. ⌜ now (out .exit) ≡ blockAt present (now (disk .entry)) (physical present block) ⌝ }
 {
-    let group = stretch(disk, addressing::group_of(block));
+    let group = extent(disk, addressing::group_of(block));
     crate::group::read_block(group, addressing::place_of(block), out);
 }
 
@@ -44,7 +44,7 @@ pub fn read_page(disk: &[u8], group: u32, out: &mut [u8])
     requires { ⌜ HasGroup present (now disk) group × (length (now out) ≡ blockSize present) ⌝ }
     ensures { λ _. ⌜ now (out .exit) ≡ blockAt present (now (disk .entry)) (pageBlock present group) ⌝ }
 {
-    crate::group::read_page(stretch(disk, group), out);
+    crate::group::read_page(extent(disk, group), out);
 }
 
 // Stores a group's page.
@@ -62,5 +62,5 @@ pub fn load_entry(disk: &[u8], group: u32, i: usize) -> Entry
     requires { ⌜ HasGroup present (now disk) group × (i < present .entries) ⌝ }
     ensures { λ r. ⌜ r ≡ entryAt (blockAt present (now (disk .entry)) (pageBlock present group)) i ⌝ }
 {
-    crate::group::load_entry(stretch(disk, group), i)
+    crate::group::load_entry(extent(disk, group), i)
 }

@@ -11,7 +11,7 @@ use Rattle.lockpage.specs.declared.Entry.{Entry}
 use Rattle.lockpage.specs.declared.Update.{Update}
 use Rattle.lockpage.specs.Page.{entryAt, withEntry}
 use Rattle.lockpage.specs.Update.{latestTime, updated}
-use Rattle.lockpage.proofs.PageLaw.{entry-room, withEntry-length}
+use Rattle.lockpage.proofs.PageLaw.{entry-within, withEntry-length}
 use Rattle.addressing.specs.Map.{groupOf, placeOf}
 use Rattle.addressing.proofs.MapLaw.{placeOf-below}
 use Rattle.memory.specs.Layout.{memorySize}
@@ -42,13 +42,13 @@ module _ {γ : Geometry} (σ : Proper γ) where
       let c = withCount m g (count m g + 1) in
       let lp : length p ≡ pageSize γ = brought-length σ proof l in
       let lc : length c ≡ memorySize γ = count-in σ m lm g (count m g + 1) (omega (arith, h, eg)) .size ∙ lm in
-      let room = entry-room σ p i lp (omega (arith, ei, placeOf-below σ a)) in
+      let inside = entry-within σ p i lp (omega (arith, ei, placeOf-below σ a)) in
       let before : o ≡ holding γ c g p =
       eo ∙ ap (λ (x : List ℕ). holding γ x g p) (en ∙ ap (λ (x : ℕ). withCount m g (x + 1)) ek) in
       er
       ∙ ap (λ (x : List ℕ). withHeldPage γ x (withEntry (heldPage γ x) i f)) before
       ∙ ap (λ (x : List ℕ). withHeldPage γ (holding γ c g p) (withEntry x i f)) (page-held σ c lc g p (omega (arith, h, eg)) lp .page)
-      ∙ holding-again σ c lc g p (withEntry p i f) lp (withEntry-length p i f room ∙ lp)
+      ∙ holding-again σ c lc g p (withEntry p i f) lp (withEntry-length p i f inside ∙ lp)
       ∙ ap (λ (x : Entry). holding γ c g (withEntry p i x)) (ef ∙ ap (updated u now) ee)
       ∙ ap₂ (λ (x j : ℕ). holding γ (withCount m x (count m x + 1)) x (withEntry p j (updated u now (entryAt p j)))) eg ei
 
@@ -61,14 +61,14 @@ module _ {γ : Geometry} (σ : Proper γ) where
       → r ≡ tagged γ m2 g (part (out ++ drop (pageSize γ) answer) 0 (pageSize γ))
       → outcomeOf 0 m2 d2 r ≡ accepted γ (λ s. change γ u s (commandOf 0 a now 0 content proof answer)) (boxOf m disk) now
   unfolding change timed
-  change-outcome u m disk content proof answer m1 d1 m2 d2 out r a g now lm h early lp room eg em1 ed1 ed2 em2 eo er =
+  change-outcome u m disk content proof answer m1 d1 m2 d2 out r a g now lm h early lp inside eg em1 ed1 ed2 em2 eo er =
       let t = withLastTime γ m now in
       let b = groupOf γ a in
       let p = updatedPage γ u (broughtPage γ proof) a now in
       let size : length p ≡ pageSize γ = changed-length σ u (commandOf 0 a now 0 content proof answer) lp in
       let reads = time-set σ m lm now (omega (arith, early)) in
       let last : m2 ≡ changedMemory γ t b p = em2 ∙ ap (λ (x : List ℕ). changedMemory γ x b p) em1 in
-      let page = changed-reads σ t (reads .size) b p h (omega (arith, reads .count b h, room)) size .page in
+      let page = changed-reads σ t (reads .size) b p h (omega (arith, reads .count b h, inside)) size .page in
       outcome-of σ disk (change γ u (timed γ (boxOf m disk) now) (commandOf 0 a now 0 content proof answer)) m2 d2 r last
       (ed2
       ∙ ap (λ (x : List ℕ). stored γ x (putContent γ u a content)) (ed1 ∙ ap₂ (λ (x : List ℕ) (k : ℕ). stored γ disk (evict γ x k)) em1 eg)

@@ -16,12 +16,12 @@ use Rattle.memory.specs.Memory.{count, groups, held, none, heldPage, withCount,
 use Rattle.memory.proofs.FieldLaw.{heldPage-length}
 use Rattle.validity.specs.Valid.{countLimit}
 use Rattle.validity.proofs.ValidLaw.{Valid}
-use Rattle.machine.specs.Effect.{stored, putHeld, evict, restarted}
+use Rattle.machine.specs.Effect.{stored, putHeld, evict, restartedMemory}
 use Rattle.machine.proofs.EffectLaw.{put-none, put-some, evict-same, evict-other, restarted-none, restarted-held}
 
 -- γ is any proper geometry
 module _ {γ : Geometry} (σ : Proper γ) where
-  -- the page's part of a group's stretch, lent and come back as the held page
+  -- the page's part of a group's extent, lent and come back as the held page
   pub page-put : (group m r : List ℕ) (from : ℕ) → length m ≡ memorySize γ → from ≡ blockStart γ (pagePlace γ) → r ≡ heldPage γ m
       → take from group ++ (r ++ drop (from + blockSize γ - from) (drop from group)) ≡ withBlock γ group (pagePlace γ) (heldPage γ m)
   page-put group m r from l ef er =
@@ -42,7 +42,7 @@ module _ {γ : Geometry} (σ : Proper γ) where
     pub held-evicted : (disk r : List ℕ) (g : ℕ) → (h ≡ g → ⊥) → r ≡ stored γ disk (putHeld γ m) → r ≡ stored γ disk (evict γ m g)
     held-evicted disk r g n er = er ∙ ap (stored γ disk) (sym (evict-other σ m g (λ e. n (eh ∙ e))))
 
-    pub none-lost : h ≡ none → m ≡ restarted γ m
+    pub none-lost : h ≡ none → m ≡ restartedMemory γ m
     none-lost e = sym (restarted-none σ m (sym eh ∙ e))
 
     -- ---- it leaves
@@ -62,7 +62,7 @@ module _ {γ : Geometry} (σ : Proper γ) where
         pub held-end : from + groupSize γ ≤ length disk
         held-end = omega (arith, at, groupStart-below σ (groups γ m) (held γ m) (v .group other))
 
-        -- its group's stretch, lent and come back with it
+        -- its group's extent, lent and come back with it
         pub held-put : (r : List ℕ) → r ≡ withBlock γ (take (from + groupSize γ - from) (drop from disk)) (pagePlace γ) (heldPage γ m)
             → take from disk ++ (r ++ drop (from + groupSize γ - from) (drop from disk)) ≡ stored γ disk (putHeld γ m)
         unfolding stored
@@ -75,9 +75,9 @@ module _ {γ : Geometry} (σ : Proper γ) where
       -- its group's count can rise
       module _ (k : ℕ) (ek : k ≡ count m h) where
         pub held-count : k ≤ countLimit
-        held-count = omega (arith, ek ∙ ap (count m) eh, v .unspent other)
+        held-count = omega (arith, ek ∙ ap (count m) eh, v .unexhausted other)
 
-        pub held-lost : (blank r : List ℕ) → blank ≡ holdingNone γ m → r ≡ withCount blank h (k + 1) → r ≡ restarted γ m
+        pub held-lost : (blank r : List ℕ) → blank ≡ holdingNone γ m → r ≡ withCount blank h (k + 1) → r ≡ restartedMemory γ m
         held-lost blank r eb er =
             er
             ∙ ap₂ (λ (x : List ℕ) (g : ℕ). withCount x g (k + 1)) eb eh

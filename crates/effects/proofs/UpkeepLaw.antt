@@ -7,28 +7,28 @@ use Rattle.octets.specs.Part.{replaced, repeated}
 use Rattle.lockpage.specs.Geometry.{Geometry, Proper}
 use Rattle.memory.specs.Memory.{withSalt, withNoCounts, withLastTime, holdingNone}
 use Rattle.machine.specs.Command.{Outcome, boxOf, outcomeOf, answerSize}
-use Rattle.machine.specs.Effect.{stored, putHeld, sync, restarted, restart, salted, newSalt}
+use Rattle.machine.specs.Effect.{stored, putHeld, sync, restartedMemory, restart, salted, newSalt}
 use Rattle.machine.specs.Step.{timed, done, accepted}
 use Rattle.machine.proofs.StepLaw.{outcome-of}
 use Rattle.answers.specs.Ready.{OnEveryDisk}
-use Rattle.answers.proofs.RoomLaw.{all-zeroed}
+use Rattle.answers.proofs.TailLaw.{all-zeroed}
 
 -- γ is any proper geometry
 module _ {γ : Geometry} (σ : Proper γ) where
   -- memory t is m with the last time set, and the answer is zeros
   module _ (m t : List ℕ) (now : ℕ) (et : t ≡ withLastTime γ m now) where
-    module _ (answer a : List ℕ) (room : length answer ≡ answerSize γ) (ea : a ≡ replaced answer 0 (repeated (answerSize γ) 0)) where
+    module _ (answer a : List ℕ) (sized : length answer ≡ answerSize γ) (ea : a ≡ replaced answer 0 (repeated (answerSize γ) 0)) where
       pub synced : (disk d n : List ℕ) → d ≡ stored γ disk (putHeld γ t) → n ≡ holdingNone γ t
           → outcomeOf 0 n d a ≡ accepted γ (sync γ) (boxOf m disk) now
       unfolding timed sync
       synced disk d n ed en =
           outcome-of σ disk (sync γ (timed γ (boxOf m disk) now)) n d a (en ∙ ap (holdingNone γ) et)
-          (ed ∙ ap (λ (x : List ℕ). stored γ disk (putHeld γ x)) et) (all-zeroed σ answer a room ea)
+          (ed ∙ ap (λ (x : List ℕ). stored γ disk (putHeld γ x)) et) (all-zeroed σ answer a sized ea)
 
-      pub lost : (n : List ℕ) → n ≡ restarted γ t → OnEveryDisk γ (restart γ) m now n a
+      pub lost : (n : List ℕ) → n ≡ restartedMemory γ t → OnEveryDisk γ (restart γ) m now n a
       unfolding timed restart stored
       lost n en disk =
-          outcome-of σ disk (restart γ (timed γ (boxOf m disk) now)) n disk a (en ∙ ap (restarted γ) et) refl (all-zeroed σ answer a room ea)
+          outcome-of σ disk (restart γ (timed γ (boxOf m disk) now)) n disk a (en ∙ ap (restartedMemory γ) et) refl (all-zeroed σ answer a sized ea)
 
   -- a sync first, then the counts and the salt
   pub renewed : (m disk n d a k s salt : List ℕ) (now : ℕ) → outcomeOf 0 n d a ≡ accepted γ (sync γ) (boxOf m disk) now → k ≡ withNoCounts γ n

@@ -13,7 +13,7 @@ ghost use Rattle.machine.specs.Question.{contentLength};
 ghost use Rattle.machine.specs.Effect.{stored, putContent, updatedPage, changedMemory};
 ghost use Rattle.machine.specs.Effect as E;
 ghost use Rattle.machine.specs.Step.{accepted};
-ghost use Rattle.answers.specs.Ready.{Sound, Room, MayChange};
+ghost use Rattle.answers.specs.Ready.{Sound, AnswerSized, MayChange};
 use crate::held;
 use lockpage::PAGE_SIZE;
 use lockpage::Update;
@@ -55,7 +55,7 @@ pub fn change(
     proof: &[u8],
     answer: &mut [u8],
 )
-    requires { ⌜ Sound present (now memory) (now disk) × ((block < dataBlocks present (groups present (now memory))) × ((length (now content) ≡ contentLength present (Change u)) × (MayChange present u (now memory) block time (now proof) × Room present (now answer)))) ⌝ }
+    requires { ⌜ Sound present (now memory) (now disk) × ((block < dataBlocks present (groups present (now memory))) × ((length (now content) ≡ contentLength present (Change u)) × (MayChange present u (now memory) block time (now proof) × AnswerSized present (now answer)))) ⌝ }
     ensures { λ _. ⌜ outcomeOf 0 (now (memory .exit)) (now (disk .exit)) (now (answer .exit)) ≡ accepted present (λ s. E.change present u s (commandOf 0 block time 0 (now (content .entry)) (now (proof .entry)) (now (answer .entry)))) (boxOf (now (memory .entry)) (now (disk .entry))) time ⌝ }
 {
     let group = addressing::group_of(block);

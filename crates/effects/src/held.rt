@@ -8,12 +8,12 @@ ghost use Rattle.memory.specs.Layout.{memorySize};
 ghost use Rattle.memory.specs.Memory.{heldPage};
 ghost use Rattle.disk.specs.Disk.{withBlock};
 ghost use Rattle.validity.specs.Valid.{valid};
-ghost use Rattle.machine.specs.Effect.{stored, putHeld, restarted};
+ghost use Rattle.machine.specs.Effect.{stored, putHeld, restartedMemory};
 ghost use Rattle.machine.specs.Effect as E;
 ghost use Rattle.answers.specs.Ready.{Sound};
 use memory::layout::NONE;
 
-// Puts the held page into a group's stretch of the disk: the page's part in its middle is lent on to be written.
+// Puts the held page into a group's extent of the disk: the page's part in its middle is lent on to be written.
 fn put_page(group: &mut [u8], memory: &[u8])
     requires { ⌜ (length (now group) ≡ groupSize present) × (length (now memory) ≡ memorySize present) ⌝ }
     ensures { λ _. ⌜ now (group .exit) ≡ withBlock present (now (group .entry)) (pagePlace present) (heldPage present (now (memory .entry))) ⌝ }
@@ -51,7 +51,7 @@ pub(crate) fn evict(memory: &[u8], disk: &mut [u8], group: u32)
 // The held page, if any, is lost.
 pub(crate) fn lose_held(memory: &mut [u8])
     requires { ⌜ valid present (now memory) ≡ true ⌝ }
-    ensures { λ _. ⌜ now (memory .exit) ≡ restarted present (now (memory .entry)) ⌝ }
+    ensures { λ _. ⌜ now (memory .exit) ≡ restartedMemory present (now (memory .entry)) ⌝ }
 {
     let group = memory::held(memory);
     if group == NONE as u32 {

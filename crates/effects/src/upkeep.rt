@@ -11,34 +11,34 @@ ghost use Rattle.machine.specs.Command.{boxOf, outcomeOf};
 ghost use Rattle.machine.specs.Effect.{newSalt};
 ghost use Rattle.machine.specs.Effect as E;
 ghost use Rattle.machine.specs.Step.{accepted};
-ghost use Rattle.answers.specs.Ready.{Sound, Room, OnEveryDisk};
+ghost use Rattle.answers.specs.Ready.{Sound, AnswerSized, OnEveryDisk};
 use crate::held;
-use answers::room;
+use answers::tail;
 
 // Kind 7.
 pub fn sync(memory: &mut [u8], disk: &mut [u8], time: u32, answer: &mut [u8])
-    requires { ⌜ Sound present (now memory) (now disk) × ((time ≤ latestTime) × Room present (now answer)) ⌝ }
+    requires { ⌜ Sound present (now memory) (now disk) × ((time ≤ latestTime) × AnswerSized present (now answer)) ⌝ }
     ensures { λ _. ⌜ outcomeOf 0 (now (memory .exit)) (now (disk .exit)) (now (answer .exit)) ≡ accepted present (E.sync present) (boxOf (now (memory .entry)) (now (disk .entry))) time ⌝ }
 {
     memory::set_last_time(memory, time);
     held::put_held(memory, disk);
     held_page::hold_none(memory);
-    room::zero_tail(answer, 0);
+    tail::zero_tail(answer, 0);
 }
 
 // Kind 8, whatever the disk.
 pub fn restart(memory: &mut [u8], time: u32, answer: &mut [u8])
-    requires { ⌜ (valid present (now memory) ≡ true) × ((time ≤ latestTime) × Room present (now answer)) ⌝ }
+    requires { ⌜ (valid present (now memory) ≡ true) × ((time ≤ latestTime) × AnswerSized present (now answer)) ⌝ }
     ensures { λ _. ⌜ OnEveryDisk present (E.restart present) (now (memory .entry)) time (now (memory .exit)) (now (answer .exit)) ⌝ }
 {
     memory::set_last_time(memory, time);
     held::lose_held(memory);
-    room::zero_tail(answer, 0);
+    tail::zero_tail(answer, 0);
 }
 
 // Kind 9: a sync first.
 pub fn new_salt(memory: &mut [u8], disk: &mut [u8], time: u32, content: &[u8], answer: &mut [u8])
-    requires { ⌜ Sound present (now memory) (now disk) × ((time ≤ latestTime) × ((length (now content) ≡ saltSize) × Room present (now answer))) ⌝ }
+    requires { ⌜ Sound present (now memory) (now disk) × ((time ≤ latestTime) × ((length (now content) ≡ saltSize) × AnswerSized present (now answer))) ⌝ }
     ensures { λ _. ⌜ outcomeOf 0 (now (memory .exit)) (now (disk .exit)) (now (answer .exit)) ≡ accepted present (λ s. newSalt present s (now (content .entry))) (boxOf (now (memory .entry)) (now (disk .entry))) time ⌝ }
 {
     sync(memory, disk, time, answer);

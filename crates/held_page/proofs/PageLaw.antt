@@ -13,16 +13,16 @@ use Rattle.lockpage.specs.Geometry.{Geometry, Proper}
 use Rattle.lockpage.specs.declared.Entry.{Entry}
 use Rattle.lockpage.specs.Size.{pageSize}
 use Rattle.lockpage.specs.Page.{withEntry}
-use Rattle.lockpage.proofs.PageLaw.{entry-room, withEntry-length}
+use Rattle.lockpage.proofs.PageLaw.{entry-within, withEntry-length}
 use Rattle.memory.specs.Layout.{memorySize, heldStart, byteSize, pageStart}
 use Rattle.memory.specs.Memory.{none, heldPage, withHeld, withHeldPage, holding, holdingNone}
 
 -- γ is any proper geometry
 module _ {γ : Geometry} (σ : Proper γ) where
   module _ (m r : List ℕ) (size : length m ≡ memorySize γ) where
-    pub page-copied : (room : List ℕ) → length room ≡ pageSize γ → r ≡ replaced room 0 (part m (pageStart γ) (pageSize γ)) → r ≡ heldPage γ m
+    pub page-copied : (buffer : List ℕ) → length buffer ≡ pageSize γ → r ≡ replaced buffer 0 (part m (pageStart γ) (pageSize γ)) → r ≡ heldPage γ m
     unfolding heldPage
-    page-copied room s e = part-copied m room r (pageStart γ) (pageSize γ) s (omega arith) e
+    page-copied buffer s e = part-copied m buffer r (pageStart γ) (pageSize γ) s (omega arith) e
 
     -- the page's part, lent and come back with one entry stored
     pub entry-stored : (i : ℕ) (e : Entry) → i < γ .entries → r ≡ withEntry (take (pageSize γ) (drop (pageStart γ) m)) i e
@@ -31,7 +31,7 @@ module _ {γ : Geometry} (σ : Proper γ) where
     entry-stored i e h er =
         let page : length (part m (pageStart γ) (pageSize γ)) ≡ pageSize γ = part-length m (pageStart γ) (pageSize γ) (omega arith) in
         replaced-lent m (pageStart γ) (pageSize γ) r
-        (ap length er ∙ withEntry-length (part m (pageStart γ) (pageSize γ)) i e (entry-room σ (part m (pageStart γ) (pageSize γ)) i page h) ∙ page)
+        (ap length er ∙ withEntry-length (part m (pageStart γ) (pageSize γ)) i e (entry-within σ (part m (pageStart γ) (pageSize γ)) i page h) ∙ page)
         ∙ ap (replaced m (pageStart γ)) er
 
   -- the held group stored, then its page

@@ -13,7 +13,7 @@ use Rattle.octets.proofs.PartLaw.{part-first, part-second, part-length, part-ad
 use Rattle.octets.proofs.NumberLaw.{bytes-length, bytes-are, number-bytes, bytes-number, numberAt-small}
 use Rattle.lockpage.specs.declared.Entry.{Entry}
 use Rattle.lockpage.specs.Size.{wordSize, entrySize}
-use Rattle.lockpage.specs.Entry.{entry, entryBytes, entryOf, EntryFits, stampOf, timeOfWrite, flag, frozen, unfrozen, isFrozen}
+use Rattle.lockpage.specs.Entry.{entry, entryBytes, entryOf, EntryFits, stampOf, timeOfWrite, flag, frozenFlag, unfrozenFlag, isFrozen}
 
 pub entryBytes-length : (e : Entry) → length (entryBytes e) ≡ entrySize
 unfolding entryBytes
@@ -65,18 +65,18 @@ pub flag-stampOf : (time f : ℕ) → f < 2 → flag (stampOf time f) ≡ f
 unfolding flag
 flag-stampOf time f h = omega arith
 
-pub frozen-true : (stamp : ℕ) → isFrozen stamp ≡ true → flag stamp ≡ frozen
+pub frozen-true : (stamp : ℕ) → isFrozen stamp ≡ true → flag stamp ≡ frozenFlag
 unfolding isFrozen
-frozen-true stamp h = eqb-true (flag stamp) frozen h
+frozen-true stamp h = eqb-true (flag stamp) frozenFlag h
 
-pub frozen-false : (stamp : ℕ) → isFrozen stamp ≡ false → flag stamp ≡ unfrozen
+pub frozen-false : (stamp : ℕ) → isFrozen stamp ≡ false → flag stamp ≡ unfrozenFlag
 unfolding isFrozen flag
-frozen-false stamp h = omega (arith, eqb-false (stamp % 2) frozen h)
+frozen-false stamp h = omega (arith, eqb-false (stamp % 2) frozenFlag h)
 
-pub frozen-yes : (stamp : ℕ) → flag stamp ≡ frozen → isFrozen stamp ≡ true
+pub frozen-yes : (stamp : ℕ) → flag stamp ≡ frozenFlag → isFrozen stamp ≡ true
 unfolding isFrozen
-frozen-yes stamp h = eq-eqb (flag stamp) frozen h
+frozen-yes stamp h = eq-eqb (flag stamp) frozenFlag h
 
-pub frozen-no : (stamp : ℕ) → flag stamp ≡ unfrozen → isFrozen stamp ≡ false
+pub frozen-no : (stamp : ℕ) → flag stamp ≡ unfrozenFlag → isFrozen stamp ≡ false
 unfolding isFrozen
-frozen-no stamp h = ne-eqb (flag stamp) frozen (λ z. absurd (omega arith))
+frozen-no stamp h = ne-eqb (flag stamp) frozenFlag (λ z. absurd (omega arith))

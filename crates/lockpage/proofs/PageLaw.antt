@@ -21,7 +21,7 @@ use Rattle.lockpage.specs.Entry.{entry, entryBytes, entryOf, EntryFits}
 use Rattle.lockpage.specs.Page.{entryAt, withEntry, repeatedEntry, blankEntry, blankPage}
 use Rattle.lockpage.proofs.EntryLaw.{entryBytes-length, entryBytes-are, entryOf-bytes, bytes-entryOf, entryOf-fits}
 
-module _ (p : List ℕ) (i : ℕ) (e : Entry) (room : entrySize * i + entrySize ≤ length p) where
+module _ (p : List ℕ) (i : ℕ) (e : Entry) (inside : entrySize * i + entrySize ≤ length p) where
   pub withEntry-length : length (withEntry p i e) ≡ length p
   unfolding withEntry
   withEntry-length = replaced-length p (entrySize * i) (entryBytes e) (omega (arith, entryBytes-length e))
@@ -33,7 +33,7 @@ module _ (p : List ℕ) (i : ℕ) (e : Entry) (room : entrySize * i + entrySize 
   pub entryAt-same : EntryFits e → entryAt (withEntry p i e) i ≡ e
   unfolding entryAt withEntry
   entryAt-same f =
-      ap entryOf (part-same p (entrySize * i) (entryBytes e) entrySize (entryBytes-length e) room) ∙ entryOf-bytes e f
+      ap entryOf (part-same p (entrySize * i) (entryBytes e) entrySize (entryBytes-length e) inside) ∙ entryOf-bytes e f
 
   pub entryAt-other : (j : ℕ) → (j ≡ i → ⊥) → entryAt (withEntry p i e) j ≡ entryAt p j
   unfolding entryAt withEntry
@@ -45,18 +45,18 @@ module _ (p : List ℕ) (i : ℕ) (e : Entry) (room : entrySize * i + entrySize 
       go (inl k) = inl (omega arith)
       go (inr k) = inr (omega (arith, entryBytes-length e))
 
-module _ (p : List ℕ) (i : ℕ) (b : AreBytes p) (room : entrySize * i + entrySize ≤ length p) where
+module _ (p : List ℕ) (i : ℕ) (b : AreBytes p) (inside : entrySize * i + entrySize ≤ length p) where
   -- the eight bytes of entry i
   pub entryAt-bytes : entryBytes (entryAt p i) ≡ part p (entrySize * i) entrySize
   unfolding entryAt
   entryAt-bytes =
       bytes-entryOf (part p (entrySize * i) entrySize) (below-part 256 p (entrySize * i) entrySize b)
-      (part-length p (entrySize * i) entrySize room)
+      (part-length p (entrySize * i) entrySize inside)
 
   -- an entry read and written back
   pub withEntry-own : withEntry p i (entryAt p i) ≡ p
   unfolding withEntry
-  withEntry-own = ap (replaced p (entrySize * i)) entryAt-bytes ∙ replaced-own p (entrySize * i) entrySize room
+  withEntry-own = ap (replaced p (entrySize * i)) entryAt-bytes ∙ replaced-own p (entrySize * i) entrySize inside
 
 -- an entry of a list of bytes, however long, has its eight bytes
 pub entryAt-fits : (p : List ℕ) (i : ℕ) → AreBytes p → EntryFits (entryAt p i)
@@ -134,9 +134,9 @@ repeatedEntry-start p e = sym (replaced-none p 0)
 
 -- γ is any proper geometry
 module _ {γ : Geometry} (σ : Proper γ) where
-  -- a page has room for each of its entries
-  pub entry-room : (p : List ℕ) (i : ℕ) → length p ≡ pageSize γ → i < γ .entries → entrySize * i + entrySize ≤ length p
-  entry-room p i l h = omega arith
+  -- a page holds each of its entries
+  pub entry-within : (p : List ℕ) (i : ℕ) → length p ≡ pageSize γ → i < γ .entries → entrySize * i + entrySize ≤ length p
+  entry-within p i l h = omega arith
 
   pub blankPage-length : length (blankPage γ) ≡ pageSize γ
   unfolding blankPage

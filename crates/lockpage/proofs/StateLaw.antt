@@ -19,7 +19,7 @@ use Rattle.lockpage.specs.declared.Entry.{Entry}
 use Rattle.lockpage.specs.declared.State.{State}
 use Rattle.lockpage.specs.declared.State.the-variants.{Free, Frozen, Counting}
 use Rattle.lockpage.specs.Size.{wordSize}
-use Rattle.lockpage.specs.Entry.{flag, frozen, unfrozen, isFrozen}
+use Rattle.lockpage.specs.Entry.{flag, frozenFlag, unfrozenFlag, isFrozen}
 use Rattle.lockpage.specs.State.{state, stateNumber, timeLeft, timeLeftSize, timeLeftBytes}
 use Rattle.lockpage.proofs.EntryLaw.{frozen-true, frozen-false}
 
@@ -38,9 +38,9 @@ module _ (now : ℕ) (e : Entry) where
 
   -- what a state says of the entry
   abbrev pub Says : State → Type 0
-  Says Free = (flag (e .stamp) ≡ unfrozen) × (e .word ≤ now)
-  Says Frozen = flag (e .stamp) ≡ frozen
-  Says Counting = (flag (e .stamp) ≡ unfrozen) × (now < e .word)
+  Says Free = (flag (e .stamp) ≡ unfrozenFlag) × (e .word ≤ now)
+  Says Frozen = flag (e .stamp) ≡ frozenFlag
+  Says Counting = (flag (e .stamp) ≡ unfrozenFlag) × (now < e .word)
 
   pub says : Says (state now e)
   unfolding state

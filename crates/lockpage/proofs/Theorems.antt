@@ -5,14 +5,14 @@ use Rattle.octets.specs.Number.{bytes}
 use Rattle.lockpage.specs.Geometry.{Geometry, Proper}
 use Rattle.lockpage.specs.Entry.{entryBytes, flag}
 use Rattle.lockpage.specs.Page.{blankEntry}
-use Rattle.lockpage.specs.Claims.{PapersSizes, SizeDivEight, ReadAndWrittenBack, WrittenAndReadBack, StateOfEntry, UpdateFits, Blank, LeftOfUnfrozen}
+use Rattle.lockpage.specs.Claims.{PapersPageSizes, SizeDivEight, ReadAndWrittenBack, WrittenAndReadBack, StateOfEntry, UpdateFits, Blank, LeftOfUnfrozen}
 use Rattle.lockpage.proofs.EntryLaw.{entryOf-bytes, bytes-entryOf, frozen-yes, frozen-no}
 use Rattle.lockpage.proofs.StateLaw.{state-frozen, state-counting, state-free, left-ahead, left-past}
 use Rattle.lockpage.proofs.UpdateLaw.{updated-fits}
 use Rattle.lockpage.proofs.PageLaw.{blankPage-length, blankPage-at}
 
-pub papers-sizes : PapersSizes
-papers-sizes = record { block = refl; page = refl; page-entries = refl; entry = refl }
+pub papers-page-sizes : PapersPageSizes
+papers-page-sizes = record { block = refl; page = refl; page-entries = refl; entry = refl }
 
 pub read-and-written-back : ReadAndWrittenBack
 unfolding ReadAndWrittenBack

@@ -13,7 +13,7 @@ use Rattle.lockpage.specs.declared.State.the-variants.{Free, Frozen, Cou
 use Rattle.lockpage.specs.declared.Update.{Update}
 use Rattle.lockpage.specs.declared.Update.the-variants.{Write, Unfreeze, Increment}
 use Rattle.lockpage.specs.Size.{wordSize}
-use Rattle.lockpage.specs.Entry.{EntryFits, timeOfWrite, flag, frozen, unfrozen, isFrozen}
+use Rattle.lockpage.specs.Entry.{EntryFits, timeOfWrite, flag, frozenFlag, unfrozenFlag, isFrozen}
 use Rattle.lockpage.specs.Update.{latestTime, longestLock, latestExpiry, expiryAt, updated, allowed, wordLimit, withinLimit}
 use Rattle.lockpage.proofs.EntryLaw.{flag-stampOf, timeOfWrite-stampOf}
 
@@ -64,26 +64,26 @@ pub written-word : (lock now : ℕ) (e : Entry) → updated (Write lock) now e .
 unfolding updated
 written-word lock now e = refl
 
-pub written-flag : (lock now : ℕ) (e : Entry) → flag (updated (Write lock) now e .stamp) ≡ frozen
+pub written-flag : (lock now : ℕ) (e : Entry) → flag (updated (Write lock) now e .stamp) ≡ frozenFlag
 unfolding updated
-written-flag lock now e = flag-stampOf now frozen (omega arith)
+written-flag lock now e = flag-stampOf now frozenFlag (omega arith)
 
 pub written-time : (lock now : ℕ) (e : Entry) → timeOfWrite (updated (Write lock) now e) ≡ now
 unfolding updated
-written-time lock now e = timeOfWrite-stampOf lock now frozen (omega arith)
+written-time lock now e = timeOfWrite-stampOf lock now frozenFlag (omega arith)
 
 -- an unfreeze
 pub unfrozen-word : (now : ℕ) (e : Entry) → updated Unfreeze now e .word ≡ expiryAt now (e .word)
 unfolding updated
 unfrozen-word now e = refl
 
-pub unfrozen-flag : (now : ℕ) (e : Entry) → flag (updated Unfreeze now e .stamp) ≡ unfrozen
+pub unfrozen-flag : (now : ℕ) (e : Entry) → flag (updated Unfreeze now e .stamp) ≡ unfrozenFlag
 unfolding updated
-unfrozen-flag now e = flag-stampOf (timeOfWrite e) unfrozen (omega arith)
+unfrozen-flag now e = flag-stampOf (timeOfWrite e) unfrozenFlag (omega arith)
 
 pub unfrozen-time : (now : ℕ) (e : Entry) → timeOfWrite (updated Unfreeze now e) ≡ timeOfWrite e
 unfolding updated
-unfrozen-time now e = timeOfWrite-stampOf (expiryAt now (e .word)) (timeOfWrite e) unfrozen (omega arith)
+unfrozen-time now e = timeOfWrite-stampOf (expiryAt now (e .word)) (timeOfWrite e) unfrozenFlag (omega arith)
 
 -- an increment
 pub grown-word : (value now : ℕ) (e : Entry) → updated (Increment value) now e .word ≡ e .word + value

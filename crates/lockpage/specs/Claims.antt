@@ -11,13 +11,13 @@ use Rattle.lockpage.specs.declared.State.the-variants.{Free, Frozen, Cou
 use Rattle.lockpage.specs.declared.Update.{Update}
 use Rattle.lockpage.specs.Geometry.{Geometry, base}
 use Rattle.lockpage.specs.Size.{entrySize, pageSize, blockSize}
-use Rattle.lockpage.specs.Entry.{entryBytes, entryOf, EntryFits, flag, frozen, unfrozen}
+use Rattle.lockpage.specs.Entry.{entryBytes, entryOf, EntryFits, flag, frozenFlag, unfrozenFlag}
 use Rattle.lockpage.specs.State.{state, timeLeft}
 use Rattle.lockpage.specs.Update.{latestTime, updated, withinLimit}
 use Rattle.lockpage.specs.Page.{entryAt, blankEntry, blankPage}
 
 -- document 01's sizes: "A block is 512 bytes"; "A page has 64 entries of 8 bytes"
-pub record PapersSizes : Type 0 where
+pub record PapersPageSizes : Type 0 where
   pub block : blockSize base ≡ 512
   pub page : pageSize base ≡ 512
   pub page-entries : base .entries ≡ 64
@@ -36,9 +36,9 @@ WrittenAndReadBack = (e : Entry) → EntryFits e → entryOf (entryBytes e) ≡ 
 
 -- "f = 0: frozen"; "f = 1: .. Counting while now < expiry, free from expiry on": an expiry reached is free
 pub record States (now : ℕ) (e : Entry) : Type 0 where
-  pub is-frozen : flag (e .stamp) ≡ frozen → state now e ≡ Frozen
-  pub is-counting : flag (e .stamp) ≡ unfrozen → now < e .word → state now e ≡ Counting
-  pub is-free : flag (e .stamp) ≡ unfrozen → e .word ≤ now → state now e ≡ Free
+  pub is-frozen : flag (e .stamp) ≡ frozenFlag → state now e ≡ Frozen
+  pub is-counting : flag (e .stamp) ≡ unfrozenFlag → now < e .word → state now e ≡ Counting
+  pub is-free : flag (e .stamp) ≡ unfrozenFlag → e .word ≤ now → state now e ≡ Free
 
 unfoldable pub StateOfEntry : Type 0
 StateOfEntry = (now : ℕ) (e : Entry) → States now e
@@ -61,4 +61,4 @@ pub record Left (now : ℕ) (e : Entry) : Type 0 where
   pub past : (k : ℕ) → now ≡ e .word + suc k → timeLeft now e ≡ negsuc k
 
 unfoldable pub LeftOfUnfrozen : Type 0
-LeftOfUnfrozen = (now : ℕ) (e : Entry) → flag (e .stamp) ≡ unfrozen → Left now e
+LeftOfUnfrozen = (now : ℕ) (e : Entry) → flag (e .stamp) ≡ unfrozenFlag → Left now e

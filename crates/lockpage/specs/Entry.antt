@@ -35,12 +35,12 @@ unfoldable pub flag : ℕ → ℕ
 flag stamp = stamp % 2
 
 -- f of a frozen block, and of one that has an expiry
-abbrev pub frozen : ℕ
-frozen = 0
+abbrev pub frozenFlag : ℕ
+frozenFlag = 0
 
-abbrev pub unfrozen : ℕ
-unfrozen = 1
+abbrev pub unfrozenFlag : ℕ
+unfrozenFlag = 1
 
 -- "f = 0: frozen, the word is the lock in seconds"
 unfoldable pub isFrozen : ℕ → Bool
-isFrozen stamp = eqb (flag stamp) frozen
+isFrozen stamp = eqb (flag stamp) frozenFlag

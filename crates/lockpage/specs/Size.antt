@@ -1,4 +1,4 @@
--- Sizes, after document 01, "Disk". That they are the paper's numbers is the claim PapersSizes. Assumes nothing: these are definitions.
+-- Sizes, after document 01, "Disk". That they are the paper's numbers is the claim PapersPageSizes. Assumes nothing: these are definitions.
 use Prim.Native.Nat.{ℕ, _+_, _*_}
 use Rattle.lockpage.specs.Geometry.{Geometry}
 

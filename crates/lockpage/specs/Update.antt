@@ -8,7 +8,7 @@ use Rattle.lockpage.specs.declared.State.{State}
 use Rattle.lockpage.specs.declared.State.the-variants.{Free, Frozen, Counting}
 use Rattle.lockpage.specs.declared.Update.{Update}
 use Rattle.lockpage.specs.declared.Update.the-variants.{Write, Unfreeze, Increment}
-use Rattle.lockpage.specs.Entry.{entry, stampOf, timeOfWrite, frozen, unfrozen, isFrozen}
+use Rattle.lockpage.specs.Entry.{entry, stampOf, timeOfWrite, frozenFlag, unfrozenFlag, isFrozen}
 
 -- ---- limits
 
@@ -32,8 +32,8 @@ expiryAt now lock = now + lock
 -- a write: "Word = lock, stamp = 2 × now". An unfreeze: "word = now + lock, f = 1"; the time of write stays,
 -- as the edge value D1 07 has it. An increment: "word + value".
 unfoldable pub updated : Update → ℕ → Entry → Entry
-updated (Write lock) now e = entry lock (stampOf now frozen)
-updated Unfreeze now e = entry (expiryAt now (e .word)) (stampOf (timeOfWrite e) unfrozen)
+updated (Write lock) now e = entry lock (stampOf now frozenFlag)
+updated Unfreeze now e = entry (expiryAt now (e .word)) (stampOf (timeOfWrite e) unfrozenFlag)
 updated (Increment value) now e = entry (e .word + value) (e .stamp)
 
 -- question 9: "Write: free? Unfreeze: frozen? Increment: frozen or counting?"

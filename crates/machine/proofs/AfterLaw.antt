@@ -17,7 +17,7 @@ use Rattle.machine.specs.declared.Kind.the-variants.{Read, Entry, Page, 
 use Rattle.machine.specs.Command.{Box, Command, Outcome, kindOf}
 use Rattle.machine.specs.Tag.{currentPage}
 use Rattle.machine.specs.Question.{refusal}
-use Rattle.machine.specs.Effect.{stored, effect, read, showEntry, showPage, putHeld, changedPage, change, sync, restarted, restart, newSalt, identify}
+use Rattle.machine.specs.Effect.{stored, effect, read, showEntry, showPage, putHeld, changedPage, change, sync, restartedMemory, restart, newSalt, identify}
 use Rattle.machine.specs.Step.{step, timed, done}
 use Rattle.machine.specs.After.{saltAfter, countAfter, heldAfter, pageAfter, contentAfter, After}
 use Rattle.machine.proofs.CaseLaw.{same-or-not}
@@ -43,7 +43,7 @@ module _ (γ : Geometry) where
 module _ {γ : Geometry} (σ : Proper γ) where
   -- ---- by kind
 
-  restart-fields : (s : Box) (c : Command) → Valid γ (s .memory) → Fields γ Restart s c (restarted γ (s .memory))
+  restart-fields : (s : Box) (c : Command) → Valid γ (s .memory) → Fields γ Restart s c (restartedMemory γ (s .memory))
   restart-fields s c v =
       let m = s .memory in
       record {

@@ -7,7 +7,7 @@ use Prim.Native.Nat.{ℕ, suc, _+_, _<_}
 use native.Mathlib.Omega.{arith}
 use Rattle.octets.specs.Part.{AreBytes}
 use Rattle.lockpage.specs.Geometry.{Geometry, Proper}
-use Rattle.lockpage.specs.Entry.{timeOfWrite, flag, frozen, unfrozen}
+use Rattle.lockpage.specs.Entry.{timeOfWrite, flag, frozenFlag, unfrozenFlag}
 use Rattle.lockpage.specs.Update.{latestTime}
 use Rattle.lockpage.specs.Page.{entryAt}
 use Rattle.lockpage.proofs.PageLaw.{entryAt-fits}
@@ -16,9 +16,8 @@ use Rattle.disk.specs.Disk.{block}
 use Rattle.disk.proofs.DiskLaw.{block-are}
 use Rattle.memory.specs.Memory.{lastTime, held, none}
 use Rattle.machine.specs.Command.{Box, Command, kindOf}
-use Rattle.machine.specs.Step.{step, padded}
+use Rattle.machine.specs.Step.{step, padded, Accepted}
 use Rattle.machine.specs.Run.{Event, Given, after, run, Throughout}
-use Rattle.machine.specs.Claims.{Accepted}
 use Rattle.machine.specs.Protection.{Unforged, NotUnfrozen, Shows, startContent, startEntry, Protected, FrozenUnder, CountingTo, NeverUnfrozen, ShowsStart, ReadIn}
 use Rattle.machine.proofs.KindLaw.{unfreeze-number}
 use Rattle.machine.proofs.QuestionLaw.{all-yes}
@@ -88,9 +87,9 @@ module _ {γ : Geometry} (σ : Proper γ) where
     In during = Shows γ b (startContent γ s₀ b) (timeOfWrite (startEntry γ s₀ b)) during
 
     together : (s : Box) (es : List Event)
-        → (flag (startEntry γ s₀ b .stamp) ≡ frozen → Throughout γ (In (λ t. t < lastTime γ (s₀ .memory) + startEntry γ s₀ b .word)) s es)
-        → (flag (startEntry γ s₀ b .stamp) ≡ unfrozen → Throughout γ (In (λ t. t < startEntry γ s₀ b .word)) s es)
-        → (flag (startEntry γ s₀ b .stamp) ≡ frozen → Throughout γ (NotUnfrozen γ b) s₀ xs → Throughout γ (NotUnfrozen γ b) s₀ ys
+        → (flag (startEntry γ s₀ b .stamp) ≡ frozenFlag → Throughout γ (In (λ t. t < lastTime γ (s₀ .memory) + startEntry γ s₀ b .word)) s es)
+        → (flag (startEntry γ s₀ b .stamp) ≡ unfrozenFlag → Throughout γ (In (λ t. t < startEntry γ s₀ b .word)) s es)
+        → (flag (startEntry γ s₀ b .stamp) ≡ frozenFlag → Throughout γ (NotUnfrozen γ b) s₀ xs → Throughout γ (NotUnfrozen γ b) s₀ ys
         → Throughout γ (In (λ t. t < suc latestTime)) s es)
         → Throughout γ (In (Protected γ s₀ b xs ys)) s es
     together s [] f g h = tt

@@ -19,10 +19,10 @@ use Rattle.lockpage.specs.State.{state, stateNumber, timeLeftBytes}
 use Rattle.lockpage.specs.Page.{entryAt}
 use Rattle.lockpage.proofs.EntryLaw.{entryBytes-length, entryBytes-are}
 use Rattle.lockpage.proofs.StateLaw.{timeLeftBytes-length, timeLeftBytes-are, stateNumber-byte}
-use Rattle.lockpage.proofs.PageLaw.{entry-room, withEntry-are}
+use Rattle.lockpage.proofs.PageLaw.{entry-within, withEntry-are}
 use Rattle.addressing.specs.Map.{dataBlocks, groupOf, placeOf, physical}
 use Rattle.addressing.proofs.MapLaw.{placeOf-below, physical-below}
-use Rattle.disk.proofs.DiskLaw.{block-length, block-are, block-room, withBlock-are}
+use Rattle.disk.proofs.DiskLaw.{block-length, block-are, block-within, withBlock-are}
 use Rattle.memory.specs.Memory.{count, groups, held, none, withCount, withNoCounts, holdingNone}
 use Rattle.memory.proofs.RangeLaw.{heldPage-bytes, withSalt-bytes, withCount-bytes, withNoCounts-bytes, withLastTime-bytes, holding-bytes, holdingNone-bytes}
 use Rattle.machine.specs.declared.Kind.{Kind}
@@ -30,7 +30,7 @@ use Rattle.machine.specs.declared.Kind.the-variants.{Read, Entry, Page, 
 use Rattle.machine.specs.Command.{Box, Command, Outcome, kindOf, proofSize, broughtPage, answerSize}
 use Rattle.machine.specs.Tag.{currentPage}
 use Rattle.machine.specs.Question.{refusal}
-use Rattle.machine.specs.Effect.{Store, Effect, stored, effect, read, showEntry, entryAnswer, showPage, putHeld, evict, putContent, updatedPage, changedPage, changedMemory, change, sync, restarted, restart, salted, newSalt, identifySize, identify}
+use Rattle.machine.specs.Effect.{Store, Effect, stored, effect, read, showEntry, entryAnswer, showPage, putHeld, evict, putContent, updatedPage, changedPage, changedMemory, change, sync, restartedMemory, restart, salted, newSalt, identifySize, identify}
 use Rattle.machine.specs.Step.{step, timed, done}
 use Rattle.machine.specs.Claims.{ByteBox, ByteCommand, Stored}
 use Rattle.machine.proofs.CaseLaw.{same-or-not}
@@ -75,10 +75,10 @@ module _ {γ : Geometry} (σ : Proper γ) where
   unfolding updatedPage
   changed-are u c l b =
       let p = broughtPage γ (c .proof) in
-      withEntry-are p (placeOf γ (c .block)) _ (entry-room σ p (placeOf γ (c .block)) (brought-length σ (c .proof) l) (placeOf-below σ (c .block)))
+      withEntry-are p (placeOf γ (c .block)) _ (entry-within σ p (placeOf γ (c .block)) (brought-length σ (c .proof) l) (placeOf-below σ (c .block)))
       (brought-are σ (c .proof) b)
 
-  restarted-are : (m : List ℕ) → AreBytes m → AreBytes (restarted γ m)
+  restarted-are : (m : List ℕ) → AreBytes m → AreBytes (restartedMemory γ m)
   restarted-are m b =
       same-or-not (held γ m) none
       (λ n. subst (λ (l : List ℕ). AreBytes l) (sym (restarted-none σ m n)) b)
@@ -153,7 +153,7 @@ module _ {γ : Geometry} (σ : Proper γ) where
   unfolding effect read showEntry showPage change sync restart newSalt identify
   named-short Read s c q x =
       let below = physical-below σ (groups γ (s .memory)) (c .block) (ltb-true (c .block) (dataBlocks γ (groups γ (s .memory))) (q .range)) in
-      omega (arith, block-length σ (s .disk) (physical γ (c .block)) (block-room σ (s .disk) (groups γ (s .memory)) (physical γ (c .block)) (q .disk) below))
+      omega (arith, block-length σ (s .disk) (physical γ (c .block)) (block-within σ (s .disk) (groups γ (s .memory)) (physical γ (c .block)) (q .disk) below))
   named-short Entry s c q x = entry-short (c .now) (entryAt (currentPage γ s (groupOf γ (c .block))) (placeOf γ (c .block)))
   named-short Page s c q x =
       let long = current-length σ s (c .block) (q .memory .size) (q .disk) (ltb-true (c .block) (groups γ (s .memory)) (q .range)) in

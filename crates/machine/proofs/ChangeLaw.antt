@@ -12,7 +12,7 @@ use Rattle.lockpage.specs.declared.Update.the-variants.{Write, Unfreeze, Increm
 use Rattle.addressing.specs.Map.{diskSize, groupOf, physical, pageBlock}
 use Rattle.addressing.proofs.MapLaw.{physical-same, physical-page, pageBlock-same}
 use Rattle.disk.specs.Disk.{block, withBlock}
-use Rattle.disk.proofs.DiskLaw.{block-same, block-other, block-room}
+use Rattle.disk.proofs.DiskLaw.{block-same, block-other, block-within}
 use Rattle.memory.specs.Memory.{salt, count, lastTime, groups, held, none, heldPage}
 use Rattle.memory.specs.Claims.{Reads, changed}
 use Rattle.validity.proofs.ValidLaw.{Valid}
@@ -45,15 +45,15 @@ module _ {γ : Geometry} (σ : Proper γ) where
       (λ n. ap (λ (xs : List Store). block γ (stored γ d xs) (pageBlock γ g)) (put-none σ m n) ∙ sym (current-other σ s g (not-none m v g (held γ m) n h)))
       (λ n.
       let w = held-whole σ m v n in
-      let room = block-room σ d (groups γ m) (pageBlock γ (held γ m)) l (w .place) in
+      let inside = block-within σ d (groups γ m) (pageBlock γ (held γ m)) l (w .place) in
       ap (λ (xs : List Store). block γ (stored γ d xs) (pageBlock γ g)) (put-some σ m n)
       ∙ same-or-not (held γ m) g
       (λ e.
       subst (λ (i : ℕ). block γ (withBlock γ d (pageBlock γ (held γ m)) (heldPage γ m)) (pageBlock γ i) ≡ heldPage γ m) e
-      (block-same σ d (pageBlock γ (held γ m)) (heldPage γ m) (w .size) room)
+      (block-same σ d (pageBlock γ (held γ m)) (heldPage γ m) (w .size) inside)
       ∙ sym (current-held σ s g e))
       (λ e.
-      block-other σ d (pageBlock γ (held γ m)) (heldPage γ m) (w .size) room (pageBlock γ g) (λ p. e (sym (pageBlock-same σ g (held γ m) p)))
+      block-other σ d (pageBlock γ (held γ m)) (heldPage γ m) (w .size) inside (pageBlock γ g) (λ p. e (sym (pageBlock-same σ g (held γ m) p)))
       ∙ sym (current-other σ s g e)))
 
   -- a held page's store is of no data block
@@ -73,7 +73,7 @@ module _ {γ : Geometry} (σ : Proper γ) where
         (groups γ (s .memory)) (groupOf γ (c .block)) (changedPage γ u c)
     change-reads =
         changed-reads σ (s .memory) (q .memory .size) (groupOf γ (c .block)) (changedPage γ u c)
-        (omega (arith, changed-group σ u s c x, q .memory .most)) (omega (arith, x .unspent)) (changed-length σ u c (x .proof))
+        (omega (arith, changed-group σ u s c x, q .memory .most)) (omega (arith, x .unexhausted)) (changed-length σ u c (x .proof))
 
     evicted-length : length evicted ≡ diskSize γ (groups γ (s .memory))
     unfolding evicted
@@ -153,7 +153,7 @@ module _ {γ : Geometry} (σ : Proper γ) where
       ap (λ (d : List ℕ). block γ d (physical γ (c .block)))
       (stored-append σ (s .disk) (evict γ (s .memory) (groupOf γ (c .block))) (putContent γ u (c .block) (c .content)))
       ∙ block-same σ (evicted u s c q x) (physical γ (c .block)) (c .content) (w .size)
-      (block-room σ (evicted u s c q x) (groups γ (s .memory)) (physical γ (c .block)) (evicted-length u s c q x) (w .place))
+      (block-within σ (evicted u s c q x) (groups γ (s .memory)) (physical γ (c .block)) (evicted-length u s c q x) (w .place))
 
   pub change-content : (u : Update) (s : Box) (c : Command) → Passed γ (Change u) s c → Changes γ u s c → (a : ℕ)
       → block γ (left γ s (change γ u s c) .disk) (physical γ a) ≡ contentAfter γ (Change u) (s .disk) c a

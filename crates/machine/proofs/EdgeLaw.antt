@@ -20,8 +20,7 @@ use Rattle.machine.specs.declared.Kind.{Kind}
 use Rattle.machine.specs.declared.Kind.the-variants.{Change}
 use Rattle.machine.specs.Command.{Box, Command, broughtEntry}
 use Rattle.machine.specs.Question.{Put, NotPut, question10, questionsTo, questions, firstNo, refusal, AllYes}
-use Rattle.machine.specs.Step.{step}
-use Rattle.machine.specs.Claims.{Accepted}
+use Rattle.machine.specs.Step.{step, Accepted}
 use Rattle.machine.specs.EdgeValues.{EdgeValues, locking}
 use Rattle.machine.proofs.KindLaw.{write-kind}
 use Rattle.machine.proofs.QuestionLaw.{passes-on, all-yes, toNinth}

@@ -12,11 +12,11 @@ use Rattle.lockpage.specs.Geometry.{Geometry, Proper}
 use Rattle.lockpage.specs.Size.{blockSize, pageSize}
 use Rattle.lockpage.specs.declared.Update.{Update}
 use Rattle.lockpage.specs.declared.Update.the-variants.{Write, Unfreeze, Increment}
-use Rattle.lockpage.proofs.PageLaw.{entry-room, withEntry-length}
+use Rattle.lockpage.proofs.PageLaw.{entry-within, withEntry-length}
 use Rattle.addressing.specs.Map.{groupBlocks, diskSize, dataBlocks, groupOf, placeOf, physical, pageBlock}
 use Rattle.addressing.proofs.MapLaw.{placeOf-below, physical-below, physical-page, pageBlock-below}
 use Rattle.disk.specs.Disk.{block, withBlock}
-use Rattle.disk.proofs.DiskLaw.{withBlock-length, block-other, block-room}
+use Rattle.disk.proofs.DiskLaw.{withBlock-length, block-other, block-within}
 use Rattle.memory.specs.Layout.{memorySize, saltSize, countSize}
 use Rattle.memory.specs.Memory.{salt, count, lastTime, groups, held, none, heldPage, withCount, withNoCounts, holdingNone}
 use Rattle.memory.specs.Claims.{Reads, changed}
@@ -25,7 +25,7 @@ use Rattle.validity.proofs.ValidLaw.{Valid}
 use Rattle.machine.specs.declared.Kind.the-variants.{Change}
 use Rattle.machine.specs.Command.{Box, Command, boxOf, proofSize, broughtPage}
 use Rattle.machine.specs.Question.{contentLength}
-use Rattle.machine.specs.Effect.{Store, Effect, store, stored, putHeld, evict, putContent, updatedPage, changedPage, changedMemory, change, restarted, salted}
+use Rattle.machine.specs.Effect.{Store, Effect, store, stored, putHeld, evict, putContent, updatedPage, changedPage, changedMemory, change, restartedMemory, salted}
 use Rattle.machine.specs.After.{HeldPageFirst}
 use Rattle.machine.proofs.CaseLaw.{same-or-not}
 use Rattle.machine.proofs.TagLaw.{brought-length}
@@ -86,15 +86,15 @@ module _ {γ : Geometry} (σ : Proper γ) where
         page = b .page;
       }
 
-  pub restarted-none : (m : List ℕ) → held γ m ≡ none → restarted γ m ≡ m
-  unfolding restarted
-  restarted-none m e = rw (restarted, eq-eqb (held γ m) none e)
+  pub restarted-none : (m : List ℕ) → held γ m ≡ none → restartedMemory γ m ≡ m
+  unfolding restartedMemory
+  restarted-none m e = rw (restartedMemory, eq-eqb (held γ m) none e)
 
   restarted-reads : (m : List ℕ) → length m ≡ memorySize γ → (held γ m ≡ none → ⊥) → held γ m < γ .mostGroups
       → count m (held γ m) + 1 < 256 ^ countSize
-      → Reads γ (restarted γ m) (salt m) (changed (count m) (held γ m) (count m (held γ m) + 1)) (lastTime γ m) (groups γ m) none (repeated (pageSize γ) 0)
-  unfolding restarted
-  restarted-reads m l e h n = rw (restarted, ne-eqb (held γ m) none e) (both (page-dropped σ m l))
+      → Reads γ (restartedMemory γ m) (salt m) (changed (count m) (held γ m) (count m (held γ m) + 1)) (lastTime γ m) (groups γ m) none (repeated (pageSize γ) 0)
+  unfolding restartedMemory
+  restarted-reads m l e h n = rw (restartedMemory, ne-eqb (held γ m) none e) (both (page-dropped σ m l))
     where
       both : Reads γ (holdingNone γ m) (salt m) (count m) (lastTime γ m) (groups γ m) none (repeated (pageSize γ) 0)
           → Reads γ (withCount (holdingNone γ m) (held γ m) (count m (held γ m) + 1)) (salt m) (changed (count m) (held γ m) (count m (held γ m) + 1))
@@ -111,26 +111,26 @@ module _ {γ : Geometry} (σ : Proper γ) where
             page = b .page ∙ a .page;
           }
 
-  pub restarted-held : (m : List ℕ) → (held γ m ≡ none → ⊥) → restarted γ m ≡ withCount (holdingNone γ m) (held γ m) (count m (held γ m) + 1)
-  unfolding restarted
-  restarted-held m e = rw (restarted, ne-eqb (held γ m) none e)
+  pub restarted-held : (m : List ℕ) → (held γ m ≡ none → ⊥) → restartedMemory γ m ≡ withCount (holdingNone γ m) (held γ m) (count m (held γ m) + 1)
+  unfolding restartedMemory
+  restarted-held m e = rw (restartedMemory, ne-eqb (held γ m) none e)
 
   -- the fields that a restart leaves, and that none is held after it
   module _ (m : List ℕ) (v : Valid γ m) where
     pub restarted-held-reads : (held γ m ≡ none → ⊥)
-        → Reads γ (restarted γ m) (salt m) (changed (count m) (held γ m) (count m (held γ m) + 1)) (lastTime γ m) (groups γ m) none (repeated (pageSize γ) 0)
-    restarted-held-reads n = restarted-reads m (v .size) n (omega (arith, v .group n, v .most)) (omega (arith, v .unspent n))
+        → Reads γ (restartedMemory γ m) (salt m) (changed (count m) (held γ m) (count m (held γ m) + 1)) (lastTime γ m) (groups γ m) none (repeated (pageSize γ) 0)
+    restarted-held-reads n = restarted-reads m (v .size) n (omega (arith, v .group n, v .most)) (omega (arith, v .unexhausted n))
 
-    pub restarted-salt : salt (restarted γ m) ≡ salt m
+    pub restarted-salt : salt (restartedMemory γ m) ≡ salt m
     restarted-salt = same-or-not (held γ m) none (λ n. ap salt (restarted-none m n)) (λ n. restarted-held-reads n .salt)
 
-    pub restarted-time : lastTime γ (restarted γ m) ≡ lastTime γ m
+    pub restarted-time : lastTime γ (restartedMemory γ m) ≡ lastTime γ m
     restarted-time = same-or-not (held γ m) none (λ n. ap (lastTime γ) (restarted-none m n)) (λ n. restarted-held-reads n .time)
 
-    pub restarted-groups : groups γ (restarted γ m) ≡ groups γ m
+    pub restarted-groups : groups γ (restartedMemory γ m) ≡ groups γ m
     restarted-groups = same-or-not (held γ m) none (λ n. ap (groups γ) (restarted-none m n)) (λ n. restarted-held-reads n .groups)
 
-    pub restarted-drops : held γ (restarted γ m) ≡ none
+    pub restarted-drops : held γ (restartedMemory γ m) ≡ none
     restarted-drops = same-or-not (held γ m) none (λ n. ap (held γ) (restarted-none m n) ∙ n) (λ n. restarted-held-reads n .held)
 
   pub salted-reads : (m s : List ℕ) → length m ≡ memorySize γ → length s ≡ saltSize
@@ -156,7 +156,7 @@ module _ {γ : Geometry} (σ : Proper γ) where
   changed-length u c l =
       let brought = brought-length σ (c .proof) l in
       withEntry-length (broughtPage γ (c .proof)) (placeOf γ (c .block)) _
-      (entry-room σ (broughtPage γ (c .proof)) (placeOf γ (c .block)) brought (placeOf-below σ (c .block)))
+      (entry-within σ (broughtPage γ (c .proof)) (placeOf γ (c .block)) brought (placeOf-below σ (c .block)))
       ∙ brought
 
   -- ---- stores
@@ -177,7 +177,7 @@ module _ {γ : Geometry} (σ : Proper γ) where
       → length (stored γ d xs) ≡ diskSize γ groups
   stored-length groups =
       each-keeps (λ (d : List ℕ). length d ≡ diskSize γ groups) (Whole γ groups)
-      (λ d x w l. withBlock-length σ d (x .place) (x .bytes) (w .size) (block-room σ d groups (x .place) l (w .place)) ∙ l)
+      (λ d x w l. withBlock-length σ d (x .place) (x .bytes) (w .size) (block-within σ d groups (x .place) l (w .place)) ∙ l)
 
   pub elsewhere : (groups p : ℕ) (xs : List Store) → EachStore (Whole γ groups) xs → EachStore (λ (x : Store). p ≡ x .place → ⊥) xs
       → EachStore (Elsewhere γ groups p) xs
@@ -190,8 +190,8 @@ module _ {γ : Geometry} (σ : Proper γ) where
       each-keeps (λ (e : List ℕ). (length e ≡ diskSize γ groups) × (block γ e p ≡ block γ d p)) (Elsewhere γ groups p)
       (λ e x w k.
       let size = w .whole .size in
-      let room = block-room σ e groups (x .place) (k .0) (w .whole .place) in
-      (withBlock-length σ e (x .place) (x .bytes) size room ∙ k .0, block-other σ e (x .place) (x .bytes) size room p (w .other) ∙ k .1))
+      let inside = block-within σ e groups (x .place) (k .0) (w .whole .place) in
+      (withBlock-length σ e (x .place) (x .bytes) size inside ∙ k .0, block-other σ e (x .place) (x .bytes) size inside p (w .other) ∙ k .1))
       d xs h (l, refl)
       .1
 

@@ -20,7 +20,7 @@ use Rattle.lockpage.specs.State.{state}
 use Rattle.lockpage.specs.Update.{latestTime, updated, allowed, withinLimit}
 use Rattle.lockpage.specs.Page.{entryAt, withEntry}
 use Rattle.lockpage.proofs.GeometryLaw.{base-proper}
-use Rattle.lockpage.proofs.PageLaw.{entry-room, entryAt-same}
+use Rattle.lockpage.proofs.PageLaw.{entry-within, entryAt-same}
 use Rattle.addressing.specs.Map.{diskSize, dataBlocks, groupOf, placeOf, pageBlock}
 use Rattle.addressing.proofs.MapLaw.{placeOf-below}
 use Rattle.disk.specs.Disk.{block}
@@ -73,7 +73,7 @@ module _ (time counted holds : ℕ) (e d : PageEntry) (s : Box) (h : Known time 
       → counted < countLimit → length content ≡ contentLength base (Change u) → allowed u (state now e) ≡ true
       → withinLimit (updated u now e) ≡ true → refusal base s (updating s kind now value content) ≡ 0
   unfolding refusal questions groupOf placeOf dataBlocks
-  served u kind now value content k later early unspent size may within =
+  served u kind now value content k later early unexhausted size may within =
       let c = updating s kind now value content in
       let found : broughtEntry base c ≡ e = ap (λ (p : List ℕ). entryAt p 0) (brings kind now value content) ∙ h .current in
       ap (λ (i : Kind). firstNo (questionsTo base i s c)) k
@@ -129,7 +129,7 @@ module _ (time counted holds : ℕ) (e d : PageEntry) (s : Box) (h : Known time 
         current =
             ap (λ (q : List ℕ). entryAt q 0) (own-page base-proper u s c k r)
             ∙ ap (λ (i : PageEntry). entryAt (withEntry p 0 (updated u now i)) 0) found
-            ∙ entryAt-same p 0 (updated u now e) (entry-room base-proper p 0 size (placeOf-below base-proper 0)) fits;
+            ∙ entryAt-same p 0 (updated u now e) (entry-within base-proper p 0 size (placeOf-below base-proper 0)) fits;
         on-disk =
             ap (λ (q : List ℕ). entryAt q 0)
             (own-on-disk base-proper u s c k r (subst (λ (i : ℕ). (i ≡ none) ⊎ (i ≡ 0)) (sym (h .held-is)) held-here))

@@ -42,17 +42,17 @@ use Rattle.machine.proofs.ExampleLaw.{Known, served, updated-known, not
 -- ---- the formatted box
 
 -- what is formatted: zeros
-room : Box
-room = boxOf (repeated (memorySize base) 0) (repeated (diskSize base 1) 0)
+inside : Box
+inside = boxOf (repeated (memorySize base) 0) (repeated (diskSize base 1) 0)
 
-as-formatted : Formats base room 1 (repeated saltSize 0)
-as-formatted = formats base-proper room 1 (repeated saltSize 0)
+as-formatted : Formats base inside 1 (repeated saltSize 0)
+as-formatted = formats base-proper inside 1 (repeated saltSize 0)
 
-format-passes : format base room 1 (repeated saltSize 0) .number ≡ 0
-unfolding formatQuestions room
+format-passes : format base inside 1 (repeated saltSize 0) .number ≡ 0
+unfolding formatQuestions inside
 format-passes =
     as-formatted .number
-    ∙ yes-accepted (formatQuestions base room 1 (repeated saltSize 0)) (
+    ∙ yes-accepted (formatQuestions base inside 1 (repeated saltSize 0)) (
       and-intro refl (and-intro refl (eq-eqb (length (repeated (memorySize base) 0)) (memorySize base) (repeated-length (memorySize base) 0))),
       (
         eq-eqb (length (repeated (diskSize base 1) 0)) (diskSize base 1) (repeated-length (diskSize base 1) 0),
@@ -61,7 +61,7 @@ format-passes =
     )
 
 known-formatted : Known 0 0 none blankEntry blankEntry formattedBox
-unfolding formattedBox room groupOf placeOf dataBlocks
+unfolding formattedBox inside groupOf placeOf dataBlocks
 known-formatted =
     let r = as-formatted .reads format-passes in
     let page : entryAt (currentPage base formattedBox 0) 0 ≡ blankEntry = as-formatted .blank format-passes 0 (lit< tt) in
@@ -138,7 +138,7 @@ overwriting-served =
 -- ---- the premises
 
 formatted-bytes : ByteBox formattedBox
-unfolding formattedBox room
+unfolding formattedBox inside
 formatted-bytes =
     as-formatted .bytes
     (record { memory = repeated-below 256 (memorySize base) 0 (lit< tt); disk = repeated-below 256 (diskSize base 1) 0 (lit< tt) })

@@ -16,9 +16,9 @@ use Rattle.lockpage.proofs.PageLaw.{blankPage-length, blankPage-are, blankPage-
 use Rattle.addressing.specs.Map.{diskSize, dataBlocks, groupOf, placeOf, physical, pageBlock}
 use Rattle.addressing.proofs.MapLaw.{groupOf-below, placeOf-below, pageBlock-below, pageBlock-same, physical-page}
 use Rattle.disk.specs.Disk.{block, withBlock}
-use Rattle.disk.proofs.DiskLaw.{block-same, block-other, block-room}
+use Rattle.disk.proofs.DiskLaw.{block-same, block-other, block-within}
 use Rattle.memory.specs.Layout.{memorySize, saltSize}
-use Rattle.memory.specs.Memory.{groups, held, formatted, none}
+use Rattle.memory.specs.Memory.{groups, held, formattedMemory, none}
 use Rattle.memory.specs.Claims.{Reads}
 use Rattle.memory.proofs.FormatLaw.{formatted-reads}
 use Rattle.memory.proofs.RangeLaw.{formatted-bytes}
@@ -27,7 +27,7 @@ use Rattle.machine.specs.Command.{Box, boxOf}
 use Rattle.machine.specs.Tag.{currentPage}
 use Rattle.machine.specs.Question.{firstNo, AllYes}
 use Rattle.machine.specs.Effect.{Store, store, stored}
-use Rattle.machine.specs.Format.{formattingOf, Formatting, formatQuestions, blankPages, format}
+use Rattle.machine.specs.Format.{formatOutcomeOf, FormatOutcome, formatQuestions, blankPages, format}
 use Rattle.machine.specs.Claims.{ByteBox, ValidBox, Formats}
 use Rattle.machine.proofs.CaseLaw.{same-or-not}
 use Rattle.machine.proofs.QuestionLaw.{numberedTo, accepted-yes}
@@ -68,14 +68,14 @@ module _ {γ : Geometry} (σ : Proper γ) where
       let w = blank-whole groups n (omega arith) in
       let size : length e ≡ diskSize γ groups =
       stored-length σ groups d (blankPages γ n) (each-blank (Whole γ groups) n (λ i j. blank-whole groups i (omega arith))) l in
-      let room = block-room σ e groups (pageBlock γ n) size (w .place) in
+      let inside = block-within σ e groups (pageBlock γ n) size (w .place) in
       ap (λ (x : List ℕ). block γ x (pageBlock γ g)) (stored-append σ d (blankPages γ n) (store (pageBlock γ n) (blankPage γ) ∷ []))
       ∙ same-or-not g n
       (λ same.
       subst (λ (i : ℕ). block γ (withBlock γ e (pageBlock γ n) (blankPage γ)) (pageBlock γ i) ≡ blankPage γ) (sym same)
-      (block-same σ e (pageBlock γ n) (blankPage γ) (w .size) room))
+      (block-same σ e (pageBlock γ n) (blankPage γ) (w .size) inside))
       (λ other.
-      block-other σ e (pageBlock γ n) (blankPage γ) (w .size) room (pageBlock γ g) (λ p. other (pageBlock-same σ g n p))
+      block-other σ e (pageBlock γ n) (blankPage γ) (w .size) inside (pageBlock γ g) (λ p. other (pageBlock-same σ g n p))
       ∙ blank-after groups n d (omega arith) l g (omega arith))
 
   -- ---- the questions
@@ -101,7 +101,7 @@ module _ {γ : Geometry} (σ : Proper γ) where
   module _ (s : Box) (g : ℕ) (salt : List ℕ) where
     -- the box that an accepted one leaves
     formattedBox : Box
-    formattedBox = boxOf (formatted γ g salt) (stored γ (s .disk) (blankPages γ g))
+    formattedBox = boxOf (formattedMemory γ g salt) (stored γ (s .disk) (blankPages γ g))
 
     first : ℕ
     first = firstNo (formatQuestions γ s g salt)
@@ -115,35 +115,35 @@ module _ {γ : Geometry} (σ : Proper γ) where
     format-refused e = rw (format, ne-eqb (firstNo (formatQuestions γ s g salt)) 0 e)
 
     -- the same, from the parts that the code leaves
-    pub formatting-accepted : (m d : List ℕ) → firstNo (formatQuestions γ s g salt) ≡ 0 → m ≡ formatted γ g salt
-        → d ≡ stored γ (s .disk) (blankPages γ g) → formattingOf 0 m d ≡ format γ s g salt
+    pub formatting-accepted : (m d : List ℕ) → firstNo (formatQuestions γ s g salt) ≡ 0 → m ≡ formattedMemory γ g salt
+        → d ≡ stored γ (s .disk) (blankPages γ g) → formatOutcomeOf 0 m d ≡ format γ s g salt
     unfolding first formattedBox
     formatting-accepted m d e em ed =
-        ap₂ (λ (x y : List ℕ). formattingOf 0 x y) em ed ∙ sym (format-accepted e)
+        ap₂ (λ (x y : List ℕ). formatOutcomeOf 0 x y) em ed ∙ sym (format-accepted e)
 
     pub formatting-refused : (n : ℕ) → n ≡ firstNo (formatQuestions γ s g salt) → (n ≡ 0 → ⊥)
-        → formattingOf n (s .memory) (s .disk) ≡ format γ s g salt
+        → formatOutcomeOf n (s .memory) (s .disk) ≡ format γ s g salt
     unfolding first
     formatting-refused n e h =
-        ap (λ (i : ℕ). formattingOf i (s .memory) (s .disk)) e ∙ sym (format-refused (λ z. h (e ∙ z)))
+        ap (λ (i : ℕ). formatOutcomeOf i (s .memory) (s .disk)) e ∙ sym (format-refused (λ z. h (e ∙ z)))
 
     format-number : format γ s g salt .number ≡ first
     format-number =
-        same-or-not first 0 (λ e. ap (λ (o : Formatting). o .number) (format-accepted e) ∙ sym e)
-        (λ e. ap (λ (o : Formatting). o .number) (format-refused e))
+        same-or-not first 0 (λ e. ap (λ (o : FormatOutcome). o .number) (format-accepted e) ∙ sym e)
+        (λ e. ap (λ (o : FormatOutcome). o .number) (format-refused e))
 
     -- what holds of the box and of the formatted one holds of the box after
     after-format : (P : Box → Type 0) → P s → (Formattable γ s g salt → P formattedBox) → P (format γ s g salt .box)
     unfolding first
     after-format P same new =
-        same-or-not first 0 (λ e. subst (λ (o : Formatting). P (o .box)) (sym (format-accepted e)) (new (formattable s g salt e)))
-        (λ e. subst (λ (o : Formatting). P (o .box)) (sym (format-refused e)) same)
+        same-or-not first 0 (λ e. subst (λ (o : FormatOutcome). P (o .box)) (sym (format-accepted e)) (new (formattable s g salt e)))
+        (λ e. subst (λ (o : FormatOutcome). P (o .box)) (sym (format-refused e)) same)
 
     when-accepted : (P : Box → Type 0) → (Formattable γ s g salt → P formattedBox) → format γ s g salt .number ≡ 0 → P (format γ s g salt .box)
     unfolding first
     when-accepted P new z =
         let e = sym format-number ∙ z in
-        subst (λ (o : Formatting). P (o .box)) (sym (format-accepted e)) (new (formattable s g salt e))
+        subst (λ (o : FormatOutcome). P (o .box)) (sym (format-accepted e)) (new (formattable s g salt e))
 
     box-valid : Formattable γ s g salt → ValidBox γ formattedBox
     unfolding formattedBox
@@ -184,7 +184,7 @@ module _ {γ : Geometry} (σ : Proper γ) where
     formats =
         record {
           number = format-number;
-          refused = λ n. ap (λ (o : Formatting). o .box) (format-refused (λ e. n (format-number ∙ e)));
+          refused = λ n. ap (λ (o : FormatOutcome). o .box) (format-refused (λ e. n (format-number ∙ e)));
           valid = when-accepted (ValidBox γ) box-valid;
           reads =
               when-accepted (λ (t : Box). Reads γ (t .memory) salt (λ k. 0) 0 g none (repeated (pageSize γ) 0))

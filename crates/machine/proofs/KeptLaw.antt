@@ -147,7 +147,7 @@ module _ {γ : Geometry} (σ : Proper γ) where
         let g = groupOf γ (c .block) in
         let v = q .memory in
         let r =
-        changed-reads σ (s .memory) (v .size) g (changedPage γ u c) (omega (arith, changed-group σ u s c x, v .most)) (omega (arith, x .unspent))
+        changed-reads σ (s .memory) (v .size) g (changedPage γ u c) (omega (arith, changed-group σ u s c x, v .most)) (omega (arith, x .unexhausted))
         (changed-length σ u c (x .proof)) in
         record {
           begun = omega (arith, r .time, h .begun);

@@ -44,7 +44,7 @@ module _ (γ : Geometry) where
   pub record Changes (u : Update) (s : Box) (c : Command) : Type 0 where
     pub range : c .block < dataBlocks γ (groups γ (s .memory))
     pub proof : length (c .proof) ≡ proofSize γ
-    pub unspent : count (s .memory) (groupOf γ (c .block)) < countLimit
+    pub unexhausted : count (s .memory) (groupOf γ (c .block)) < countLimit
     pub may : allowed u (state (c .now) (broughtEntry γ c)) ≡ true
     pub within : withinLimit (updated u (c .now) (broughtEntry γ c)) ≡ true
 
@@ -83,7 +83,7 @@ module _ {γ : Geometry} (σ : Proper γ) where
       record {
         range = ltb-true (c .block) (dataBlocks γ (groups γ (s .memory))) (known .range);
         proof = known .proof;
-        unspent = ltb-true (count (s .memory) (groupOf γ (c .block))) countLimit (h .1 .1 .1 .1 .1 .1 .1 .0);
+        unexhausted = ltb-true (count (s .memory) (groupOf γ (c .block))) countLimit (h .1 .1 .1 .1 .1 .1 .1 .0);
         may = h .1 .1 .1 .1 .1 .1 .1 .1 .0;
         within = h .1 .1 .1 .1 .1 .1 .1 .1 .1 .0;
       }
@@ -125,7 +125,7 @@ module _ {γ : Geometry} (σ : Proper γ) where
       record {
         range = subst (λ (g : ℕ). c .block < dataBlocks γ g) (sym (r .groups)) (q .range);
         proof = q .proof;
-        unspent = omega (arith, counted, q .unspent);
+        unexhausted = omega (arith, counted, q .unexhausted);
         may = q .may;
         within = q .within;
       }

@@ -19,17 +19,17 @@ use Rattle.lockpage.specs.declared.Entry.{Entry}
 use Rattle.lockpage.specs.declared.State.the-variants.{Free}
 use Rattle.lockpage.specs.declared.Update.{Update}
 use Rattle.lockpage.specs.declared.Update.the-variants.{Write, Unfreeze, Increment}
-use Rattle.lockpage.specs.Entry.{EntryFits, timeOfWrite, flag, frozen, unfrozen}
+use Rattle.lockpage.specs.Entry.{EntryFits, timeOfWrite, flag, frozenFlag, unfrozenFlag}
 use Rattle.lockpage.specs.State.{state}
 use Rattle.lockpage.specs.Update.{latestTime, updated, allowed, withinLimit}
 use Rattle.lockpage.specs.Page.{entryAt, withEntry}
 use Rattle.lockpage.proofs.StateLaw.{Says, says}
 use Rattle.lockpage.proofs.UpdateLaw.{expiry-reaches, updated-fits, unfrozen-word, unfrozen-flag, unfrozen-time, grown-word, grown-stamp, grown-time, allowed-write, allowed-unfreeze}
-use Rattle.lockpage.proofs.PageLaw.{entry-room, entryAt-same, entryAt-other}
+use Rattle.lockpage.proofs.PageLaw.{entry-within, entryAt-same, entryAt-other}
 use Rattle.addressing.specs.Map.{diskSize, groupOf, placeOf, physical, pageBlock}
 use Rattle.addressing.proofs.MapLaw.{placeOf-below}
 use Rattle.disk.specs.Disk.{block, withBlock}
-use Rattle.disk.proofs.DiskLaw.{withBlock-length, block-same, block-other, block-room}
+use Rattle.disk.proofs.DiskLaw.{withBlock-length, block-same, block-other, block-within}
 use Rattle.memory.specs.Memory.{lastTime, held, none, heldPage}
 use Rattle.machine.specs.Command.{Box}
 use Rattle.machine.specs.Effect.{Store, stored}
@@ -50,8 +50,8 @@ pub record Watch : Type 0 where
 
 abbrev pub Locked : Watch → Entry → Type 0
 Locked w e =
-    ((flag (e .stamp) ≡ frozen) × ((w .bound ≤ w .start + e .word) ⊎ (w .forever ≡ true)))
-    ⊎ ((flag (e .stamp) ≡ unfrozen) × (w .bound ≤ e .word))
+    ((flag (e .stamp) ≡ frozenFlag) × ((w .bound ≤ w .start + e .word) ⊎ (w .forever ≡ true)))
+    ⊎ ((flag (e .stamp) ≡ unfrozenFlag) × (w .bound ≤ e .word))
 
 pub record Safe (w : Watch) (e : Entry) : Type 0 where
   pub fits : EntryFits e
@@ -59,7 +59,7 @@ pub record Safe (w : Watch) (e : Entry) : Type 0 where
   pub locked : Locked w e
 
 -- a frozen block is not counting
-not-both : (stamp : ℕ) → flag stamp ≡ frozen → flag stamp ≡ unfrozen → ⊥
+not-both : (stamp : ℕ) → flag stamp ≡ frozenFlag → flag stamp ≡ unfrozenFlag → ⊥
 not-both stamp f g = omega arith
 
 pub safe-not-free : (w : Watch) (e : Entry) (t : ℕ) → Safe w e → t < w .bound → state t e ≡ Free → ⊥
@@ -68,7 +68,7 @@ safe-not-free w e t h l f =
     ⊎-elim (λ x. not-both (e .stamp) (x .0) (free .0)) (λ x. omega (arith, x .1, free .1)) (h .locked)
 
 -- an unfreeze from the start's time on
-locked-unfrozen : (w : Watch) (e : Entry) (t : ℕ) → Locked w e → flag (e .stamp) ≡ frozen → w .start ≤ t
+locked-unfrozen : (w : Watch) (e : Entry) (t : ℕ) → Locked w e → flag (e .stamp) ≡ frozenFlag → w .start ≤ t
     → (w .forever ≡ true → ⊥) → Locked w (updated Unfreeze t e)
 locked-unfrozen w e t h f l n =
     let long : w .bound ≤ w .start + e .word =
@@ -136,12 +136,12 @@ module _ {γ : Geometry} (σ : Proper γ) where
   safe-page w p a e l h own =
       let i = placeOf γ a in
       let j = placeOf γ (w .block) in
-      let room = entry-room σ p i l (placeOf-below σ a) in
+      let inside = entry-within σ p i l (placeOf-below σ a) in
       same-or-not i j
       (λ here.
       subst (λ (k : ℕ). Safe w (entryAt (withEntry p i e) k)) here
-      (subst (Safe w) (sym (entryAt-same p i e room (own here .fits))) (own here)))
-      (λ other. subst (Safe w) (sym (entryAt-other p i e room j (λ x. other (sym x)))) h)
+      (subst (Safe w) (sym (entryAt-same p i e inside (own here .fits))) (own here)))
+      (λ other. subst (Safe w) (sym (entryAt-other p i e inside j (λ x. other (sym x)))) h)
 
   -- ---- disks
 
@@ -152,15 +152,15 @@ module _ {γ : Geometry} (σ : Proper γ) where
       let q = x .place in
       let new = x .bytes in
       let size = h .whole .size in
-      let room = block-room σ d groups q (s .0) (h .whole .place) in
+      let inside = block-within σ d groups q (s .0) (h .whole .place) in
       let page = pageBlock γ (groupOf γ (w .block)) in
       let here : page ≡ q → SafePage γ w (block γ (withBlock γ d q new) page) =
-      λ e. subst (SafePage γ w) (sym (ap (block γ (withBlock γ d q new)) e ∙ block-same σ d q new size room)) (h .page e) in
+      λ e. subst (SafePage γ w) (sym (ap (block γ (withBlock γ d q new)) e ∙ block-same σ d q new size inside)) (h .page e) in
       let other : (page ≡ q → ⊥) → SafePage γ w (block γ (withBlock γ d q new) page) =
-      λ e. subst (SafePage γ w) (sym (block-other σ d q new size room page e)) (s .1 .page) in (
-        withBlock-length σ d q new size room ∙ s .0,
+      λ e. subst (SafePage γ w) (sym (block-other σ d q new size inside page e)) (s .1 .page) in (
+        withBlock-length σ d q new size inside ∙ s .0,
         record {
-          content = block-other σ d q new size room (physical γ (w .block)) (h .not-content) ∙ s .1 .content;
+          content = block-other σ d q new size inside (physical γ (w .block)) (h .not-content) ∙ s .1 .content;
           page = same-or-not page q here other;
         },
       )

@@ -10,13 +10,13 @@ use Rattle.lockpage.specs.declared.State.the-variants.{Free}
 use Rattle.lockpage.specs.declared.Update.{Update}
 use Rattle.lockpage.specs.declared.Update.the-variants.{Write, Unfreeze}
 use Rattle.lockpage.specs.declared.Entry.{Entry as PageEntry}
-use Rattle.lockpage.specs.Entry.{flag, frozen, unfrozen}
+use Rattle.lockpage.specs.Entry.{flag, frozenFlag, unfrozenFlag}
 use Rattle.lockpage.specs.State.{state}
 use Rattle.lockpage.specs.Update.{updated}
 use Rattle.lockpage.specs.Page.{entryAt}
 use Rattle.lockpage.proofs.StateLaw.{Says, says}
 use Rattle.lockpage.proofs.UpdateLaw.{updated-fits, unfrozen-flag, allowed-write, allowed-unfreeze}
-use Rattle.lockpage.proofs.PageLaw.{entry-room, entryAt-fits, entryAt-same}
+use Rattle.lockpage.proofs.PageLaw.{entry-within, entryAt-fits, entryAt-same}
 use Rattle.addressing.specs.Map.{groupData, groupOf, placeOf, pageBlock}
 use Rattle.addressing.proofs.MapLaw.{placeOf-below, physical-page}
 use Rattle.memory.specs.Layout.{memorySize, countSize}
@@ -97,9 +97,9 @@ module _ {γ : Geometry} (σ : Proper γ) where
       let e = broughtEntry γ c in
       let fits = updated-fits Unfreeze (c .now) e (q .early)
       (entryAt-fits (broughtPage γ (c .proof)) (placeOf γ (c .block)) (brought-are σ (c .proof) bytes)) (x .within) in
-      let room = entry-room σ (broughtPage γ (c .proof)) (placeOf γ (c .block)) (brought-length σ (c .proof) (x .proof)) (placeOf-below σ (c .block)) in
+      let inside = entry-within σ (broughtPage γ (c .proof)) (placeOf γ (c .block)) (brought-length σ (c .proof) (x .proof)) (placeOf-below σ (c .block)) in
       let stored : entryAt (changedPage γ Unfreeze c) (placeOf γ (c .block)) ≡ updated Unfreeze (c .now) e =
-      entryAt-same (broughtPage γ (c .proof)) (placeOf γ (c .block)) (updated Unfreeze (c .now) e) room fits in
+      entryAt-same (broughtPage γ (c .proof)) (placeOf γ (c .block)) (updated Unfreeze (c .now) e) inside fits in
       refused-by σ 9 t d
       (refused-by-ninth σ Unfreeze t d ed
       (λ h.
@@ -110,8 +110,8 @@ module _ {γ : Geometry} (σ : Proper γ) where
       let found : broughtEntry γ d ≡ updated Unfreeze (c .now) e =
       ap (λ (p : List ℕ). entryAt p (placeOf γ (d .block))) brings ∙ ap (λ (b : ℕ). entryAt (changedPage γ Unfreeze c) (placeOf γ b)) same ∙ stored in
       let is-frozen = allowed-unfreeze (state (d .now) (broughtEntry γ d)) (ninth-yes σ Unfreeze t d h) in
-      let still : flag (broughtEntry γ d .stamp) ≡ frozen = subst (Says (d .now) (broughtEntry γ d)) is-frozen (says (d .now) (broughtEntry γ d)) in
-      let now : flag (broughtEntry γ d .stamp) ≡ unfrozen = ap (λ (i : PageEntry). flag (i .stamp)) found ∙ unfrozen-flag (c .now) e in
+      let still : flag (broughtEntry γ d .stamp) ≡ frozenFlag = subst (Says (d .now) (broughtEntry γ d)) is-frozen (says (d .now) (broughtEntry γ d)) in
+      let now : flag (broughtEntry γ d .stamp) ≡ unfrozenFlag = ap (λ (i : PageEntry). flag (i .stamp)) found ∙ unfrozen-flag (c .now) e in
       omega arith))
 
   -- ---- an old tag
@@ -141,11 +141,11 @@ module _ {γ : Geometry} (σ : Proper γ) where
   count-rises Entry m c g n v h x small = (omega arith, small)
   count-rises Page m c g n v h x small = (omega arith, small)
   count-rises (Change u) m c g n v h x small =
-      let unspent = x u refl in
+      let unexhausted = x u refl in
       raised (count m) (groupOf γ (c .block)) g (λ e. omega arith) small
   count-rises Sync m c g n v h x small = (omega arith, small)
   count-rises Restart m c g n v h x small =
-      raised (count m) (held γ m) g (λ e. v .unspent (λ none-held. omega (arith, v .most))) small
+      raised (count m) (held γ m) g (λ e. v .unexhausted (λ none-held. omega (arith, v .most))) small
   count-rises NewSalt m c g n v h x small = absurd (n refl)
   count-rises Identify m c g n v h x small = (omega arith, small)
   count-rises Unknown m c g n v h x small = (omega arith, small)
@@ -156,7 +156,7 @@ module _ {γ : Geometry} (σ : Proper γ) where
       let a = accepted-after σ t c r in
       let rises =
       count-rises k (t .memory) c g (λ e. stays (step-number σ t c ∙ r) (new-salt-number (c .kind) (c .value) e))
-      (facts σ (t .memory) (h .valid .memory)) (h .of-box) (λ u e. changes σ u t c (all-yes σ (Change u) t c e r) .unspent) (h .small) in
+      (facts σ (t .memory) (h .valid .memory)) (h .of-box) (λ u e. changes σ u t c (all-yes σ (Change u) t c e r) .unexhausted) (h .small) in
       let same = a .counts g (h .of-box) in
       record {
         valid = accepted-valid σ t c r;
@@ -178,8 +178,8 @@ module _ {γ : Geometry} (σ : Proper γ) where
     updated-yes : AllYes (questionsTo γ (Change u) s c)
     updated-yes = all-yes σ (Change u) s c e r
 
-    unspent-before : count (s .memory) (groupOf γ (c .block)) < countLimit
-    unspent-before = changes σ u s c updated-yes .unspent
+    unexhausted-before : count (s .memory) (groupOf γ (c .block)) < countLimit
+    unexhausted-before = changes σ u s c updated-yes .unexhausted
 
     counted-update : Counted γ (groupOf γ (c .block)) (count (s .memory) (groupOf γ (c .block))) (step γ s c .box)
     counted-update =
@@ -189,7 +189,7 @@ module _ {γ : Geometry} (σ : Proper γ) where
           of-box =
               subst (λ (n : ℕ). groupOf γ (c .block) < n) (sym (accepted-after σ s c r .same-groups)) (changed-group σ u s c (changes σ u s c updated-yes));
           more = omega arith;
-          small = omega (arith, unspent-before);
+          small = omega (arith, unexhausted-before);
         }
 
     -- what it answers is a page with its tag
@@ -218,7 +218,7 @@ module _ {γ : Geometry} (σ : Proper γ) where
         valid = accepted-valid σ t r rr;
         of-box = subst (λ (n : ℕ). g < n) (sym (accepted-after σ t r rr .same-groups)) (h .of-box);
         more = omega arith;
-        small = omega (arith, unspent-before u s c ec rc, own-count σ u s c ec rc);
+        small = omega (arith, unexhausted-before u s c ec rc, own-count σ u s c ec rc);
       }
 
   -- a memory's size, from the valid box
@@ -231,7 +231,7 @@ module _ {γ : Geometry} (σ : Proper γ) where
       let r = accepts σ s c a in
       let g = groupOf γ (c .block) in
       let h = counted-run g (count (s .memory) g) (step γ s c .box) es stays (counted-update u s c ec r) in
-      let unspent = unspent-before u s c ec r in
+      let unexhausted = unexhausted-before u s c ec r in
       stale (s .memory) g (run γ (step γ s c .box) es) d v ed same
       (subst (λ (p : List ℕ). broughtTag γ p ≡ tag γ (s .memory) g (broughtPage γ p)) (sym proof)
       (seventh-yes σ u s c (all-seven σ u s c (updated-yes u s c ec r))))

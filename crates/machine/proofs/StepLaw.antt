@@ -16,8 +16,8 @@ use Rattle.machine.specs.declared.Kind.{Kind}
 use Rattle.machine.specs.Command.{Box, Command, Outcome, outcomeOf, kindOf, answerSize}
 use Rattle.machine.specs.Question.{refusal}
 use Rattle.machine.specs.Effect.{Effect, stored, effect}
-use Rattle.machine.specs.Step.{padded, timed, done, refused, step}
-use Rattle.machine.specs.Claims.{Accepted, RefusedBy, Unaltered}
+use Rattle.machine.specs.Step.{padded, timed, done, refused, step, Accepted}
+use Rattle.machine.specs.Claims.{RefusedBy, Unaltered}
 use Rattle.machine.proofs.CaseLaw.{same-or-not}
 
 -- γ is any proper geometry
@@ -86,8 +86,8 @@ module _ {γ : Geometry} (σ : Proper γ) where
   pub padded-full : (named : List ℕ) → length named ≡ answerSize γ → padded γ named ≡ named
   unfolding padded repeated
   padded-full named l =
-      let room : answerSize γ - length named ≡ 0 = omega arith in
-      ap (λ (n : ℕ). named ++ repeated n 0) room ∙ append-nil named
+      let none-left : answerSize γ - length named ≡ 0 = omega arith in
+      ap (λ (n : ℕ). named ++ repeated n 0) none-left ∙ append-nil named
 
   pub padded-are : (named : List ℕ) → AreBytes named → AreBytes (padded γ named)
   unfolding padded

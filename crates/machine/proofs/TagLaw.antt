@@ -17,7 +17,7 @@ use Rattle.lockpage.specs.Size.{pageSize}
 use Rattle.addressing.specs.Map.{diskSize, pageBlock}
 use Rattle.addressing.proofs.MapLaw.{pageBlock-below}
 use Rattle.disk.specs.Disk.{block}
-use Rattle.disk.proofs.DiskLaw.{block-length, block-are, block-room}
+use Rattle.disk.proofs.DiskLaw.{block-length, block-are, block-within}
 use Rattle.memory.specs.Layout.{memorySize, saltSize, countSize}
 use Rattle.memory.specs.Memory.{salt, count, groups, held, heldPage}
 use Rattle.memory.proofs.FieldLaw.{salt-length, heldPage-length}
@@ -133,7 +133,7 @@ module _ {γ : Geometry} (σ : Proper γ) where
   current-length s g lm ld h =
       current (λ (p : List ℕ). length p ≡ pageSize γ) s g (λ e. heldPage-length σ (s .memory) lm)
       (block-length σ (s .disk) (pageBlock γ g)
-      (block-room σ (s .disk) (groups γ (s .memory)) (pageBlock γ g) ld (pageBlock-below σ (groups γ (s .memory)) g h)))
+      (block-within σ (s .disk) (groups γ (s .memory)) (pageBlock γ g) ld (pageBlock-below σ (groups γ (s .memory)) g h)))
 
   pub current-are : (s : Box) (g : ℕ) → AreBytes (s .memory) → AreBytes (s .disk) → AreBytes (currentPage γ s g)
   current-are s g bm bd =

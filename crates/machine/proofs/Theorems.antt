@@ -13,8 +13,8 @@ use Rattle.memory.specs.Memory.{groups}
 use Rattle.validity.proofs.ValidLaw.{facts}
 use Rattle.machine.specs.Command.{Box, Command, kindOf}
 use Rattle.machine.specs.Question.{refusal, questions}
-use Rattle.machine.specs.Step.{step}
-use Rattle.machine.specs.Claims.{PapersSizes, IsFirstNo, PassesIfAllYes, KindsAreOneToTen, NumberIsFirstNo, RefusalAltersNothing, AcceptedLeavesValid, StaysValid, InvalidRefuses, ByteBox, StepKeepsBytes, SameLengths, StepKeepsLengths, FormattingFormats}
+use Rattle.machine.specs.Step.{step, Accepted}
+use Rattle.machine.specs.Claims.{PapersBufferSizes, IsFirstNo, PassesIfAllYes, KindsAreOneToTen, NumberIsFirstNo, RefusalAltersNothing, AcceptedLeavesValid, StaysValid, InvalidRefuses, ByteBox, StepKeepsBytes, SameLengths, StepKeepsLengths, FormattingFormats}
 use Rattle.machine.specs.After.{AcceptedDoes, NewSaltDiffers, HeldPageFirst, AnswersServe}
 use Rattle.machine.specs.Protection.{Demand3, ReadsAlike}
 use Rattle.machine.specs.Shortcuts.{Shortcuts}
@@ -30,7 +30,7 @@ use Rattle.machine.proofs.EffectLaw.{held-first}
 use Rattle.machine.proofs.ValidBoxLaw.{accepted-valid, run-valid}
 use Rattle.machine.proofs.BytesLaw.{answer-length, accepted-bytes}
 use Rattle.machine.proofs.AfterLaw.{accepted-after}
-use Rattle.machine.proofs.AfterLaw as after
+use Rattle.machine.proofs.AfterLaw as AfterLaw
 use Rattle.machine.proofs.AnswerLaw.{answer-serves}
 use Rattle.machine.proofs.FormatLaw as format
 use Rattle.machine.proofs.ShortcutLaw as shortcut
@@ -40,8 +40,8 @@ use Rattle.machine.proofs.AlikeLaw.{start-shown, read-in}
 
 -- ---- specs/Claims.antt
 
-pub papers-sizes : PapersSizes
-papers-sizes =
+pub papers-buffer-sizes : PapersBufferSizes
+papers-buffer-sizes =
     record { tag = refl; proof = refl; answer = refl; message = λ m g page l n. message-length base-proper m g page l ∙ omega arith }
 
 -- γ is any proper geometry
@@ -132,7 +132,7 @@ module _ {γ : Geometry} (σ : Proper γ) where
 
   pub new-salt-differs : NewSaltDiffers γ
   unfolding NewSaltDiffers
-  new-salt-differs s c a k = after.new-salt-differs σ s c (new-salt-kind (c .kind) (c .value) k) (accepts σ s c a)
+  new-salt-differs s c a k = AfterLaw.new-salt-differs σ s c (new-salt-kind (c .kind) (c .value) k) (accepts σ s c a)
 
   pub answers-serve : AnswersServe γ
   unfolding AnswersServe

@@ -19,7 +19,7 @@ use Rattle.machine.specs.declared.Kind.{Kind}
 use Rattle.machine.specs.declared.Kind.the-variants.{Read, Entry, Page, Change, Sync, Restart, NewSalt, Identify, Unknown}
 use Rattle.machine.specs.Command.{Box, Command, Outcome, boxOf, kindOf}
 use Rattle.machine.specs.Question.{refusal}
-use Rattle.machine.specs.Effect.{Store, stored, effect, read, showEntry, showPage, putHeld, evict, putContent, changedPage, changedMemory, change, sync, restarted, restart, salted, newSalt, identify}
+use Rattle.machine.specs.Effect.{Store, stored, effect, read, showEntry, showPage, putHeld, evict, putContent, changedPage, changedMemory, change, sync, restartedMemory, restart, salted, newSalt, identify}
 use Rattle.machine.specs.Step.{step, timed, done}
 use Rattle.machine.specs.Run.{Event, Given, after, run}
 use Rattle.machine.specs.Claims.{ValidBox}
@@ -46,7 +46,7 @@ module _ {γ : Geometry} (σ : Proper γ) where
       let counted : count m₁ g ≡ count m g + 1 = r .count g (omega (arith, v .most)) ∙ count-changed (count m) g (count m g + 1) in
       valid-holding σ m₁ v₁ g p (omega (arith, r .groups)) (omega arith) (omega arith) n
 
-  restarted-valid : (m : List ℕ) → Valid γ m → valid γ (restarted γ m) ≡ true
+  restarted-valid : (m : List ℕ) → Valid γ m → valid γ (restartedMemory γ m) ≡ true
   restarted-valid m v =
       same-or-not (held γ m) none
       (λ n. ap (valid γ) (restarted-none σ m n) ∙ is-valid σ m v)
@@ -54,7 +54,7 @@ module _ {γ : Geometry} (σ : Proper γ) where
       let dropped = page-dropped σ m (v .size) in
       ap (valid γ) (restarted-held σ m n)
       ∙ valid-count σ (holdingNone γ m) (facts σ (holdingNone γ m) (valid-none σ m v)) (held γ m) (count m (held γ m) + 1)
-      (omega (arith, dropped .groups, v .group n)) (omega (arith, v .unspent n))
+      (omega (arith, dropped .groups, v .group n)) (omega (arith, v .unexhausted n))
       (λ e. absurd (n (sym e ∙ dropped .held))))
 
   salted-valid : (m s : List ℕ) → Valid γ m → length s ≡ saltSize → valid γ (salted γ m s) ≡ true
@@ -81,8 +81,8 @@ module _ {γ : Geometry} (σ : Proper γ) where
       let h = changed-group σ u s c x in
       let p = changedPage γ u c in
       let n = changed-length σ u c (x .proof) in
-      let r = changed-reads σ m (v .size) g p (omega (arith, v .most)) (omega (arith, x .unspent)) n in
-      with-disk s (changedMemory γ m g p) (evict γ m g ++ putContent γ u (c .block) (c .content)) (changed-valid m v g p h (x .unspent) n) (r .groups)
+      let r = changed-reads σ m (v .size) g p (omega (arith, v .most)) (omega (arith, x .unexhausted)) n in
+      with-disk s (changedMemory γ m g p) (evict γ m g ++ putContent γ u (c .block) (c .content)) (changed-valid m v g p h (x .unexhausted) n) (r .groups)
       (q .disk)
       (each-append (Whole γ (groups γ m)) (evict γ m g) (putContent γ u (c .block) (c .content))
       (each-evicted σ (Whole γ (groups γ m)) m g (put-whole σ m v))
@@ -100,7 +100,7 @@ module _ {γ : Geometry} (σ : Proper γ) where
       with-disk s (holdingNone γ (s .memory)) (putHeld γ (s .memory)) (valid-none σ (s .memory) (q .memory)) (r .groups) (q .disk)
       (put-whole σ (s .memory) (q .memory))
   effect-valid Restart s c q x =
-      with-disk s (restarted γ (s .memory)) [] (restarted-valid (s .memory) (q .memory)) (restarted-groups σ (s .memory) (q .memory)) (q .disk) tt
+      with-disk s (restartedMemory γ (s .memory)) [] (restarted-valid (s .memory) (q .memory)) (restarted-groups σ (s .memory) (q .memory)) (q .disk) tt
   effect-valid NewSalt s c q x =
       let r = salted-reads σ (s .memory) (c .content) (q .memory .size) (q .content) in
       with-disk s (salted γ (s .memory) (c .content)) (putHeld γ (s .memory))

@@ -18,8 +18,7 @@ use Rattle.machine.specs.Command.{Box, Command, kindOf, broughtPage}
 use Rattle.machine.specs.Tag.{currentPage}
 use Rattle.machine.specs.Question.{question7, HasYes}
 use Rattle.machine.specs.Effect.{store, change, changedPage}
-use Rattle.machine.specs.Step.{step}
-use Rattle.machine.specs.Claims.{Accepted}
+use Rattle.machine.specs.Step.{step, Accepted}
 
 -- the salt: a new one is the data
 abbrev pub saltAfter : Kind → List ℕ → Command → List ℕ

@@ -18,14 +18,14 @@ use Rattle.validity.specs.Valid.{valid}
 use Rattle.machine.specs.Command.{Box, Command, kindOf, tagSize, proofSize, answerSize}
 use Rattle.machine.specs.Tag.{tagMessage, currentPage}
 use Rattle.machine.specs.Question.{Question, Put, question3, questions, firstNo, HasYes, AllYes}
-use Rattle.machine.specs.Step.{step}
+use Rattle.machine.specs.Step.{step, Accepted}
 use Rattle.machine.specs.Format.{formatQuestions, format}
 use Rattle.machine.specs.Run.{Event, run}
 
 -- ---- document 01's sizes
 
 -- "proof (page 512, tag 32) and a 544-byte answer buffer"; "salt, group in 8 bytes, count in 4 bytes, page: 556 bytes"
-pub record PapersSizes : Type 0 where
+pub record PapersBufferSizes : Type 0 where
   pub tag : tagSize ≡ 32
   pub proof : proofSize base ≡ 544
   pub answer : answerSize base ≡ 544
@@ -52,9 +52,6 @@ pub record ByteCommand (c : Command) : Type 0 where
 
 -- γ is the box's geometry; the numbers quoted are those at base
 module _ (γ : Geometry) where
-  abbrev pub Accepted : Box → Command → Type 0
-  Accepted s c = step γ s c .number ≡ 0
-
   -- the command is refused, by question n at the latest
   abbrev pub RefusedBy : ℕ → Box → Command → Type 0
   RefusedBy n s c = (1 ≤ step γ s c .number) × (step γ s c .number ≤ n)
@@ -62,8 +59,8 @@ module _ (γ : Geometry) where
   -- ---- demand 2: "A command passes if and only if each question put to it there has yes."
 
   pub record Passes (s : Box) (c : Command) : Type 0 where
-    pub passes : AllYes (questions γ s c) → Accepted s c
-    pub only : Accepted s c → AllYes (questions γ s c)
+    pub passes : AllYes (questions γ s c) → Accepted γ s c
+    pub only : Accepted γ s c → AllYes (questions γ s c)
 
   unfoldable pub PassesIfAllYes : Type 0
   PassesIfAllYes = (s : Box) (c : Command) → Passes s c
@@ -77,7 +74,7 @@ module _ (γ : Geometry) where
   KindsAreOneToTen = (c : Command) → OneToTen c
 
   pub record Numbered (s : Box) (c : Command) : Type 0 where
-    pub first : (Accepted s c → ⊥) → IsFirstNo (step γ s c .number) (questions γ s c)
+    pub first : (Accepted γ s c → ⊥) → IsFirstNo (step γ s c .number) (questions γ s c)
     pub only : (n : ℕ) → IsFirstNo n (questions γ s c) → step γ s c .number ≡ n
 
   unfoldable pub NumberIsFirstNo : Type 0
@@ -90,7 +87,7 @@ module _ (γ : Geometry) where
     pub answer : step γ s c .answer ≡ c .answer
 
   unfoldable pub RefusalAltersNothing : Type 0
-  RefusalAltersNothing = (s : Box) (c : Command) → (Accepted s c → ⊥) → Unaltered s c
+  RefusalAltersNothing = (s : Box) (c : Command) → (Accepted γ s c → ⊥) → Unaltered s c
 
   -- ---- a box once valid stays valid: questions 1 and 2 have yes
 
@@ -99,7 +96,7 @@ module _ (γ : Geometry) where
     pub disk : length (s .disk) ≡ diskSize γ (groups γ (s .memory))
 
   unfoldable pub AcceptedLeavesValid : Type 0
-  AcceptedLeavesValid = (s : Box) (c : Command) → Accepted s c → ValidBox (step γ s c .box)
+  AcceptedLeavesValid = (s : Box) (c : Command) → Accepted γ s c → ValidBox (step γ s c .box)
 
   unfoldable pub StaysValid : Type 0
   StaysValid = (s : Box) (es : List Event) → ValidBox s → ValidBox (run γ s es)

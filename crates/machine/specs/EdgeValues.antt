@@ -16,18 +16,17 @@ use Rattle.lockpage.specs.Update.{updated}
 use Rattle.lockpage.specs.Page.{blankEntry}
 use Rattle.addressing.specs.Map.{physical, pageBlock}
 use Rattle.machine.specs.Command.{Box, Command}
-use Rattle.machine.specs.Step.{step}
-use Rattle.machine.specs.Claims.{Accepted}
+use Rattle.machine.specs.Step.{step, Accepted}
 
 -- "Lock 500 written at 1000", "Unfrozen at 1200", "Increment 100"
-abbrev pub written : Entry
-written = updated (Write 500) 1000 blankEntry
+abbrev pub writtenEntry : Entry
+writtenEntry = updated (Write 500) 1000 blankEntry
 
-abbrev pub unfrozen : Entry
-unfrozen = updated Unfreeze 1200 written
+abbrev pub unfrozenEntry : Entry
+unfrozenEntry = updated Unfreeze 1200 writtenEntry
 
-abbrev pub grown : Entry
-grown = updated (Increment 100) 1200 unfrozen
+abbrev pub grownEntry : Entry
+grownEntry = updated (Increment 100) 1200 unfrozenEntry
 
 -- "Lock 0 unfrozen at 1200"
 abbrev pub unlocked : Entry
@@ -53,19 +52,19 @@ pub record EdgeValues : Type 0 where
   pub block-1023 : physical base 1023 ≡ 1038
   pub page-15 : pageBlock base 15 ≡ 1039
   -- "F4 01 00 00 D0 07 00 00"
-  pub written-bytes : entryBytes written ≡ 244 ∷ 1 ∷ 0 ∷ 0 ∷ 208 ∷ 7 ∷ 0 ∷ 0 ∷ []
+  pub written-bytes : entryBytes writtenEntry ≡ 244 ∷ 1 ∷ 0 ∷ 0 ∷ 208 ∷ 7 ∷ 0 ∷ 0 ∷ []
   -- "A4 06 00 00 D1 07 00 00"
-  pub unfrozen-bytes : entryBytes unfrozen ≡ 164 ∷ 6 ∷ 0 ∷ 0 ∷ 209 ∷ 7 ∷ 0 ∷ 0 ∷ []
+  pub unfrozen-bytes : entryBytes unfrozenEntry ≡ 164 ∷ 6 ∷ 0 ∷ 0 ∷ 209 ∷ 7 ∷ 0 ∷ 0 ∷ []
   -- "08 07 00 00": the word
-  pub grown-word : bytes wordSize (grown .word) ≡ 8 ∷ 7 ∷ 0 ∷ 0 ∷ []
+  pub grown-word : bytes wordSize (grownEntry .word) ≡ 8 ∷ 7 ∷ 0 ∷ 0 ∷ []
   -- "Expiry 1700: at 1650, 50 left": counting
-  pub before-left : timeLeft 1650 unfrozen ≡ pos 50
-  pub before-state : state 1650 unfrozen ≡ Counting
+  pub before-left : timeLeft 1650 unfrozenEntry ≡ pos 50
+  pub before-state : state 1650 unfrozenEntry ≡ Counting
   -- "at 1700, 0 and free"
-  pub reached-left : timeLeft 1700 unfrozen ≡ pos 0
-  pub reached-state : state 1700 unfrozen ≡ Free
+  pub reached-left : timeLeft 1700 unfrozenEntry ≡ pos 0
+  pub reached-state : state 1700 unfrozenEntry ≡ Free
   -- "at 1750, CE FF FF FF FF FF FF FF"
-  pub past-left : timeLeftBytes 1750 unfrozen ≡ 206 ∷ 255 ∷ 255 ∷ 255 ∷ 255 ∷ 255 ∷ 255 ∷ 255 ∷ []
+  pub past-left : timeLeftBytes 1750 unfrozenEntry ≡ 206 ∷ 255 ∷ 255 ∷ 255 ∷ 255 ∷ 255 ∷ 255 ∷ 255 ∷ []
   -- "Lock 0 unfrozen at 1200 is free at 1200."
   pub unlocked-state : state 1200 unlocked ≡ Free
   -- "Lock 2,147,483,647 passes, 2,147,483,648 gets 10": wherever a write with lock 0 passes

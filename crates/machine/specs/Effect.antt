@@ -115,11 +115,11 @@ module _ (γ : Geometry) where
   sync s = effectOf (putHeld (s .memory)) (holdingNone γ (s .memory)) []
 
   -- "the held page is lost, its group's count rises by 1, held becomes 255, its bytes zero; with none held only the last time changes"
-  unfoldable pub restarted : List ℕ → List ℕ
-  restarted m = elim (eqb (held γ m) none) [ true ↦ m | false ↦ withCount (holdingNone γ m) (held γ m) (count m (held γ m) + 1) ]
+  unfoldable pub restartedMemory : List ℕ → List ℕ
+  restartedMemory m = elim (eqb (held γ m) none) [ true ↦ m | false ↦ withCount (holdingNone γ m) (held γ m) (count m (held γ m) + 1) ]
 
   unfoldable pub restart : Box → Effect
-  restart s = effectOf [] (restarted (s .memory)) []
+  restart s = effectOf [] (restartedMemory (s .memory)) []
 
   -- "sync first, then the data become the salt and all counts 0"
   unfoldable pub salted : List ℕ → List ℕ → List ℕ

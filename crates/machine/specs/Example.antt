@@ -14,10 +14,9 @@ use Rattle.memory.specs.Layout.{memorySize, saltSize}
 use Rattle.memory.specs.Memory.{lastTime, held, none}
 use Rattle.machine.specs.Command.{Box, Command, boxOf, answerSize}
 use Rattle.machine.specs.Tag.{tagged, currentPage}
-use Rattle.machine.specs.Step.{step}
+use Rattle.machine.specs.Step.{step, Accepted}
 use Rattle.machine.specs.Format.{format}
 use Rattle.machine.specs.Run.{Event, Given, run, Throughout}
-use Rattle.machine.specs.Claims.{Accepted}
 use Rattle.machine.specs.Protection.{Unforged, startEntry}
 
 -- an update of block 0 that brings the current page with its tag

@@ -8,18 +8,18 @@ use Rattle.lockpage.specs.Geometry.{Geometry}
 use Rattle.lockpage.specs.Page.{blankPage}
 use Rattle.addressing.specs.Map.{diskSize, pageBlock}
 use Rattle.memory.specs.Layout.{memorySize, saltSize}
-use Rattle.memory.specs.Memory.{formatted}
+use Rattle.memory.specs.Memory.{formattedMemory}
 use Rattle.machine.specs.Command.{Box, boxOf}
 use Rattle.machine.specs.Question.{Question, Put, firstNo}
 use Rattle.machine.specs.Effect.{Store, store, stored}
 
 -- what formatting leaves: its number, memory and disk
-pub record Formatting : Type 0 where
+pub record FormatOutcome : Type 0 where
   pub number : ℕ
   pub box : Box
 
-abbrev pub formattingOf : ℕ → List ℕ → List ℕ → Formatting
-formattingOf number memory disk = record { number = number; box = boxOf memory disk }
+abbrev pub formatOutcomeOf : ℕ → List ℕ → List ℕ → FormatOutcome
+formatOutcomeOf number memory disk = record { number = number; box = boxOf memory disk }
 
 -- γ is the box's geometry; the numbers quoted are those at base
 module _ (γ : Geometry) where
@@ -36,10 +36,10 @@ module _ (γ : Geometry) where
   blankPages zero = []
   blankPages (suc g) = blankPages g ++ (store (pageBlock γ g) (blankPage γ) ∷ [])
 
-  unfoldable pub format : Box → ℕ → List ℕ → Formatting
+  unfoldable pub format : Box → ℕ → List ℕ → FormatOutcome
   format s g salt =
       let n = firstNo (formatQuestions s g salt) in
       elim (eqb n 0) [
-        | true ↦ formattingOf 0 (formatted γ g salt) (stored γ (s .disk) (blankPages g))
+        | true ↦ formatOutcomeOf 0 (formattedMemory γ g salt) (stored γ (s .disk) (blankPages g))
         | false ↦ record { number = n; box = s }
       ]

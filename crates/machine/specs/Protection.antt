@@ -5,7 +5,7 @@ use Prim.Native.Nat.{ℕ, _+_, _<_}
 use Rattle.octets.specs.Part.{AreBytes}
 use Rattle.lockpage.specs.Geometry.{Geometry}
 use Rattle.lockpage.specs.declared.Entry.{Entry}
-use Rattle.lockpage.specs.Entry.{timeOfWrite, flag, frozen, unfrozen}
+use Rattle.lockpage.specs.Entry.{timeOfWrite, flag, frozenFlag, unfrozenFlag}
 use Rattle.lockpage.specs.Page.{entryAt}
 use Rattle.addressing.specs.Map.{groupOf, placeOf, physical, pageBlock}
 use Rattle.disk.specs.Disk.{block}
@@ -13,9 +13,8 @@ use Rattle.memory.specs.Memory.{lastTime, held, none}
 use Rattle.machine.specs.Command.{Box, Command, broughtPage}
 use Rattle.machine.specs.Tag.{currentPage}
 use Rattle.machine.specs.Question.{questions, GetsYes}
-use Rattle.machine.specs.Step.{step, padded}
+use Rattle.machine.specs.Step.{step, padded, Accepted}
 use Rattle.machine.specs.Run.{Event, Given, run, Throughout}
-use Rattle.machine.specs.Claims.{Accepted}
 
 -- γ is the box's geometry; the numbers quoted are those at base
 module _ (γ : Geometry) where
@@ -55,12 +54,12 @@ module _ (γ : Geometry) where
   -- block b is protected at time t; T is the last time at the start. "A command is timed by its now; T + L is a plain sum"
   pub data Protected (s : Box) (b : ℕ) (xs ys : List Event) (t : ℕ) : Type 0 where
     -- "With f = 0 and word L in its entry it is frozen under lock L": before T + L
-    FrozenUnder : flag (startEntry s b .stamp) ≡ frozen → t < lastTime γ (s .memory) + startEntry s b .word → Protected s b xs ys t
+    FrozenUnder : flag (startEntry s b .stamp) ≡ frozenFlag → t < lastTime γ (s .memory) + startEntry s b .word → Protected s b xs ys t
     -- "with f = 1 and word E, E above T, it is counting down to E": before E
-    CountingTo : flag (startEntry s b .stamp) ≡ unfrozen → lastTime γ (s .memory) < startEntry s b .word → t < startEntry s b .word
+    CountingTo : flag (startEntry s b .stamp) ≡ unfrozenFlag → lastTime γ (s .memory) < startEntry s b .word → t < startEntry s b .word
         → Protected s b xs ys t
     -- "one frozen and unfrozen in neither run, to the end"
-    NeverUnfrozen : flag (startEntry s b .stamp) ≡ frozen → Throughout γ (NotUnfrozen b) s xs → Throughout γ (NotUnfrozen b) s ys
+    NeverUnfrozen : flag (startEntry s b .stamp) ≡ frozenFlag → Throughout γ (NotUnfrozen b) s xs → Throughout γ (NotUnfrozen b) s ys
         → Protected s b xs ys t
 
   -- the run es from s shows block b, where it is protected, as it was at the start

@@ -6,15 +6,15 @@ use Prim.Native.Nat.{ℕ, _<_}
 use Rattle.octets.specs.Part.{AreBytes}
 use Rattle.lockpage.specs.Geometry.{Geometry}
 use Rattle.lockpage.specs.declared.Update.{Update}
-use Rattle.lockpage.specs.Entry.{flag, unfrozen}
+use Rattle.lockpage.specs.Entry.{flag, unfrozenFlag}
 use Rattle.addressing.specs.Map.{groupData, groupOf, physical, pageBlock}
 use Rattle.blake3.specs.Blake3.{digest}
 use Rattle.machine.specs.declared.Kind.the-variants.{Change}
 use Rattle.machine.specs.Command.{Box, Command, kindOf, broughtPage, broughtEntry}
 use Rattle.machine.specs.Tag.{tagMessage}
-use Rattle.machine.specs.Step.{step}
+use Rattle.machine.specs.Step.{step, Accepted}
 use Rattle.machine.specs.Run.{Event, Given, run, Throughout}
-use Rattle.machine.specs.Claims.{Accepted, RefusedBy}
+use Rattle.machine.specs.Claims.{RefusedBy}
 use Rattle.machine.specs.Protection.{Unforged}
 
 -- the tags of these two messages differ if the messages do. No digest has this of all messages: it is a premise about the two at hand
@@ -33,7 +33,7 @@ module _ (γ : Geometry) where
 
   -- "Reading f = 1 as free without the expiry": a write before the expiry is refused
   unfoldable pub NotFreeBeforeExpiry : Type 0
-  NotFreeBeforeExpiry = (s : Box) (c : Command) → c .kind ≡ 4 → flag (broughtEntry γ c .stamp) ≡ unfrozen → c .now < broughtEntry γ c .word
+  NotFreeBeforeExpiry = (s : Box) (c : Command) → c .kind ≡ 4 → flag (broughtEntry γ c .stamp) ≡ unfrozenFlag → c .now < broughtEntry γ c .word
       → RefusedBy γ 9 s c
 
   -- "Leaving the count out of the tag, so an old page still matches": after an accepted update c of a group, and any events but a new

@@ -1,4 +1,5 @@
 -- One command, after document 01, "Commands" and "Questions". Assumes nothing: these are definitions.
+use mathlib.Core.Path.{_≡_}
 use mathlib.Core.Bool.{true, false}
 use mathlib.Core.List.{List, _++_}
 use Prim.Native.Nat.{ℕ, _-_}
@@ -39,3 +40,7 @@ module _ (γ : Geometry) where
         | true ↦ accepted (λ t. effect γ (kindOf c) t c) s (c .now)
         | false ↦ refused (refusal γ s c) s c
       ]
+
+  -- "Accepted is 0."
+  abbrev pub Accepted : Box → Command → Type 0
+  Accepted s c = step s c .number ≡ 0

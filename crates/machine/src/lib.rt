@@ -18,7 +18,7 @@ pub const LENGTH_WRONG: u32 = 6;
 
 pub const TAG_WRONG: u32 = 7;
 
-pub const COUNT_SPENT: u32 = 8;
+pub const COUNT_EXHAUSTED: u32 = 8;
 
 pub const STATE_WRONG: u32 = 9;
 

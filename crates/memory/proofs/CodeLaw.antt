@@ -10,7 +10,7 @@ use Rattle.octets.proofs.RepeatedLaw.{repeated-length}
 use Rattle.octets.proofs.ReplacedLaw.{replaced-all, part-copied, all-copied}
 use Rattle.lockpage.specs.Geometry.{Geometry, Proper}
 use Rattle.memory.specs.Layout.{memorySize, saltStart, saltSize, countSize, countStart, groupsStart, heldStart, byteSize}
-use Rattle.memory.specs.Memory.{salt, count, none, withSalt, withCount, withGroups, withHeld, formatted}
+use Rattle.memory.specs.Memory.{salt, count, none, withSalt, withCount, withGroups, withHeld, formattedMemory}
 
 -- a count, at its place
 pub count-loaded : (m : List ℕ) (r at g : ℕ) → at ≡ countStart g → r ≡ numberAt m at countSize → r ≡ count m g
@@ -24,9 +24,9 @@ count-stored m r at g n ea er = er ∙ ap (λ (k : ℕ). withNumber m k countSiz
 -- γ is any proper geometry
 module _ {γ : Geometry} (σ : Proper γ) where
   module _ (m r : List ℕ) (size : length m ≡ memorySize γ) where
-    pub salt-copied : (room : List ℕ) → length room ≡ saltSize → r ≡ replaced room 0 (part m saltStart saltSize) → r ≡ salt m
+    pub salt-copied : (buffer : List ℕ) → length buffer ≡ saltSize → r ≡ replaced buffer 0 (part m saltStart saltSize) → r ≡ salt m
     unfolding salt
-    salt-copied room s e = part-copied m room r saltStart saltSize s (omega arith) e
+    salt-copied buffer s e = part-copied m buffer r saltStart saltSize s (omega arith) e
 
     pub salt-stored : (s : List ℕ) → length s ≡ saltSize → r ≡ replaced m saltStart (part s 0 saltSize) → r ≡ withSalt m s
     unfolding withSalt
@@ -34,8 +34,8 @@ module _ {γ : Geometry} (σ : Proper γ) where
 
   -- the memory of formatting, stored field after field
   pub format-stored : (m a b c r : List ℕ) (g : ℕ) (s : List ℕ) → length m ≡ memorySize γ → a ≡ replaced m 0 (repeated (memorySize γ) 0)
-      → b ≡ withSalt a s → c ≡ withNumber b (groupsStart γ) byteSize g → r ≡ withNumber c (heldStart γ) byteSize none → r ≡ formatted γ g s
-  unfolding formatted withGroups withHeld
+      → b ≡ withSalt a s → c ≡ withNumber b (groupsStart γ) byteSize g → r ≡ withNumber c (heldStart γ) byteSize none → r ≡ formattedMemory γ g s
+  unfolding formattedMemory withGroups withHeld
   format-stored m a b c r g s size ea eb ec er =
       let zeros : a ≡ repeated (memorySize γ) 0 = ea ∙ replaced-all m (repeated (memorySize γ) 0) (repeated-length (memorySize γ) 0 ∙ sym size) in
       er

@@ -10,7 +10,7 @@ use Rattle.octets.proofs.NumberLaw.{numberAt-zeros}
 use Rattle.lockpage.specs.Geometry.{Geometry, Proper}
 use Rattle.lockpage.specs.Size.{pageSize}
 use Rattle.memory.specs.Layout.{memorySize, saltSize, countStart, countSize, timeStart, timeSize, reservedStart, reservedSize, pageStart}
-use Rattle.memory.specs.Memory.{count, lastTime, none, heldPage, withSalt, withGroups, formatted}
+use Rattle.memory.specs.Memory.{count, lastTime, none, heldPage, withSalt, withGroups, formattedMemory}
 use Rattle.memory.specs.Claims.{Reads}
 use Rattle.memory.proofs.FieldLaw.{salt-in, salt-rest, groups-in, held-in, salt-set, groups-set, held-set}
 
@@ -29,8 +29,8 @@ module _ {γ : Geometry} (σ : Proper γ) where
   blank-part at k h = repeated-part (memorySize γ) 0 at k h
 
   module _ (g : ℕ) (s : List ℕ) (small : g < 256) (size : length s ≡ saltSize) where
-    pub formatted-reads : Reads γ (formatted γ g s) s (λ k. 0) 0 g none (repeated (pageSize γ) 0)
-    unfolding formatted blank count lastTime heldPage
+    pub formatted-reads : Reads γ (formattedMemory γ g s) s (λ k. 0) 0 g none (repeated (pageSize γ) 0)
+    unfolding formattedMemory blank count lastTime heldPage
     formatted-reads =
         let a = salt-set σ blank blank-size s size in
         let b = groups-set σ (withSalt blank s) (a .size) g small in
@@ -50,9 +50,9 @@ module _ {γ : Geometry} (σ : Proper γ) where
 
   -- its counts from group g on, and the two bytes that are 0, are zeros
   pub formatted-zeros : (g : ℕ) (s : List ℕ) → length s ≡ saltSize → g ≤ γ .mostGroups
-      → (part (formatted γ g s) (countStart g) (timeStart γ - countStart g) ≡ repeated (timeStart γ - countStart g) 0)
-      × (part (formatted γ g s) (reservedStart γ) reservedSize ≡ repeated reservedSize 0)
-  unfolding formatted blank
+      → (part (formattedMemory γ g s) (countStart g) (timeStart γ - countStart g) ≡ repeated (timeStart γ - countStart g) 0)
+      × (part (formattedMemory γ g s) (reservedStart γ) reservedSize ≡ repeated reservedSize 0)
+  unfolding formattedMemory blank
   formatted-zeros g s size most =
       let a = salt-in σ blank blank-size s size in
       let b = groups-in σ (withSalt blank s) (a .size ∙ blank-size) g in

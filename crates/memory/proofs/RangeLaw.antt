@@ -9,7 +9,7 @@ use Rattle.octets.proofs.NumberLaw.{withNumber-are, numberAt-small}
 use Rattle.lockpage.specs.Geometry.{Geometry, Proper}
 use Rattle.lockpage.specs.Size.{pageSize}
 use Rattle.memory.specs.Layout.{memorySize, saltStart, saltSize, countsStart, countSize, countStart, timeStart, timeSize, groupsStart, heldStart, byteSize, pageStart}
-use Rattle.memory.specs.Memory.{salt, count, lastTime, groups, held, none, heldPage, withSalt, withCount, withNoCounts, withLastTime, withGroups, withHeld, withHeldPage, holding, holdingNone, formatted}
+use Rattle.memory.specs.Memory.{salt, count, lastTime, groups, held, none, heldPage, withSalt, withCount, withNoCounts, withLastTime, withGroups, withHeld, withHeldPage, holding, holdingNone, formattedMemory}
 
 -- γ is any proper geometry
 module _ {γ : Geometry} (σ : Proper γ) where
@@ -79,8 +79,8 @@ module _ {γ : Geometry} (σ : Proper γ) where
   unfolding holdingNone
   holdingNone-bytes m b = holding-bytes m b none (repeated (pageSize γ) 0) (repeated-below 256 (pageSize γ) 0 (omega arith))
 
-  pub formatted-bytes : (g : ℕ) (s : List ℕ) → AreBytes s → AreBytes (formatted γ g s)
-  unfolding formatted
+  pub formatted-bytes : (g : ℕ) (s : List ℕ) → AreBytes s → AreBytes (formattedMemory γ g s)
+  unfolding formattedMemory
   formatted-bytes g s c =
       let zeros = repeated-below 256 (memorySize γ) 0 (omega arith) in
       let salted = withSalt-bytes (repeated (memorySize γ) 0) zeros s c in

@@ -9,7 +9,7 @@ use Rattle.octets.specs.Part.{repeated}
 use Rattle.lockpage.specs.Geometry.{Geometry, base}
 use Rattle.lockpage.specs.Size.{pageSize}
 use Rattle.memory.specs.Layout.{memorySize, saltStart, saltSize, countSize, countStart, timeStart, timeSize, groupsStart, heldStart, reservedStart, reservedSize, pageStart}
-use Rattle.memory.specs.Memory.{salt, count, lastTime, groups, held, none, heldPage, withSalt, withCount, withNoCounts, withLastTime, withGroups, withHeld, withHeldPage, holding, holdingNone, formatted}
+use Rattle.memory.specs.Memory.{salt, count, lastTime, groups, held, none, heldPage, withSalt, withCount, withNoCounts, withLastTime, withGroups, withHeld, withHeldPage, holding, holdingNone, formattedMemory}
 
 -- ---- document 01's places
 
@@ -61,4 +61,4 @@ module _ (γ : Geometry) where
   -- formatting sets them all
   unfoldable pub FormattedReads : Type 0
   FormattedReads = (g : ℕ) (s : List ℕ) → g < 256 → length s ≡ saltSize
-      → Reads (formatted γ g s) s (λ k. 0) 0 g none (repeated (pageSize γ) 0)
+      → Reads (formattedMemory γ g s) s (λ k. 0) 0 g none (repeated (pageSize γ) 0)

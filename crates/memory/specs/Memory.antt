@@ -74,5 +74,5 @@ module _ (γ : Geometry) where
   holdingNone m = holding m none (repeated (pageSize γ) 0)
 
   -- formatting "stores both", G and the salt, "sets .. held to 255 and the rest of the memory to 0"
-  unfoldable pub formatted : ℕ → List ℕ → List ℕ
-  formatted g s = withHeld (withGroups (withSalt (repeated (memorySize γ) 0) s) g) none
+  unfoldable pub formattedMemory : ℕ → List ℕ → List ℕ
+  formattedMemory g s = withHeld (withGroups (withSalt (repeated (memorySize γ) 0) s) g) none

@@ -6,7 +6,7 @@ ghost use lib.ListN.{length};
 ghost use Rattle.octets.specs.Part.{equal};
 ghost use Rattle.lockpage.specs.Geometry.{present};
 ghost use Rattle.memory.specs.Layout.{memorySize, saltSize};
-ghost use Rattle.memory.specs.Memory.{lastTime, withSalt, withCount, withNoCounts, withLastTime, formatted};
+ghost use Rattle.memory.specs.Memory.{lastTime, withSalt, withCount, withNoCounts, withLastTime, formattedMemory};
 ghost use Rattle.memory.specs.Memory as M;
 
 pub mod layout;
@@ -102,7 +102,7 @@ pub fn set_salt(memory: &mut [u8], salt: &[u8])
 // Makes the memory that of a box just formatted.
 pub fn format(memory: &mut [u8], groups: u32, salt: &[u8])
     requires { ⌜ (length (now memory) ≡ memorySize present) × ((groups < 256) × (length (now salt) ≡ saltSize)) ⌝ }
-    ensures { λ _. ⌜ now (memory .exit) ≡ formatted present groups (now (salt .entry)) ⌝ }
+    ensures { λ _. ⌜ now (memory .exit) ≡ formattedMemory present groups (now (salt .entry)) ⌝ }
 {
     octets::fill(memory, 0, layout::MEMORY_SIZE, 0);
     set_salt(memory, salt);

@@ -89,8 +89,8 @@ compared-end a b i d c l h = go (eqb d 0) refl
 
 pub filled-end : (l : List ℕ) (at n b i d : ℕ) → at + n ≤ length l → n ≤ i → Compared (part l at n) (repeated n b) i d
     → eqb d 0 ≡ equal (part l at n) (repeated n b)
-filled-end l at n b i d room h c =
-    let size = part-length l at n room in
+filled-end l at n b i d inside h c =
+    let size = part-length l at n inside in
     compared-end (part l at n) (repeated n b) i d c (size ∙ sym (repeated-length n b)) (omega (arith, size))
 
 -- four places more
@@ -103,7 +103,7 @@ below-four P i all p0 p1 p2 p3 k h =
 -- a part with zeros, four bytes at a time
 words-more : (a : List ℕ) (n i d w : ℕ) → 4 * n ≤ length a → i < n → w ≡ numberAt a (4 * i) 4 → Compared a (repeated (4 * n) 0) (4 * i) d
     → Compared a (repeated (4 * n) 0) (4 * (i + 1)) (bitOr d w)
-words-more a n i d w room h e c =
+words-more a n i d w inside h e c =
     let word = number-of-four a (4 * i) _ _ _ _ (omega arith) refl refl refl refl in
     let z0 = repeated-at (4 * n) 0 (4 * i) (omega arith) in
     let z1 = repeated-at (4 * n) 0 (4 * i + 1) (omega arith) in
@@ -140,6 +140,6 @@ pub words-step : (l : List ℕ) (at n i d w : ℕ) → at + 4 * n ≤ length l �
     → Compared (part l at (4 * n)) (repeated (4 * n) 0) (4 * i) d
     → Compared (part l at (4 * n)) (repeated (4 * n) 0) (4 * (i + 1)) (bitOr d w)
 unfolding numberAt
-words-step l at n i d w room h e c =
-    words-more (part l at (4 * n)) n i d w (omega (arith, part-length l at (4 * n) room)) h
+words-step l at n i d w inside h e c =
+    words-more (part l at (4 * n)) n i d w (omega (arith, part-length l at (4 * n) inside)) h
     (e ∙ ap number (sym (part-part l at (4 * n) (4 * i) 4 (omega arith)))) c

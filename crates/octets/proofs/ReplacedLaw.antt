@@ -147,9 +147,9 @@ replaced-within l a k f new h e =
 
 -- ---- copies
 
--- a part copied into a room of its size
-pub part-copied : (l room r : List ℕ) (at n : ℕ) → length room ≡ n → at + n ≤ length l → r ≡ replaced room 0 (part l at n) → r ≡ part l at n
-part-copied l room r at n s h e = e ∙ replaced-all room (part l at n) (part-length l at n h ∙ sym s)
+-- a part copied into a buffer of its size
+pub part-copied : (l buffer r : List ℕ) (at n : ℕ) → length buffer ≡ n → at + n ≤ length l → r ≡ replaced buffer 0 (part l at n) → r ≡ part l at n
+part-copied l buffer r at n s h e = e ∙ replaced-all buffer (part l at n) (part-length l at n h ∙ sym s)
 
 -- a part that was lent and came back as new
 pub lent-filled : (l new r : List ℕ) (a k : ℕ) → length new ≡ k → r ≡ new → take a l ++ (r ++ drop k (drop a l)) ≡ replaced l a new

@@ -20,7 +20,7 @@ use Rattle.machine.specs.Command.{broughtPage, broughtTag}
 use Rattle.machine.specs.Tag.{tag}
 use Rattle.machine.specs.Question.{Question, question7, question8, question9, question10, firstNo}
 use Rattle.machine.proofs.QuestionLaw.{says-no, goes-on}
-use Rattle.questions.specs.Parts.{changeQuestions}
+use Rattle.questions.specs.ChangeQuestions.{changeQuestions}
 
 -- ---- one by one: with the entry that the code has computed
 
@@ -34,9 +34,9 @@ module _ (u : Update) (now : ℕ) (e i : Entry) where
 -- γ is the box's geometry
 module _ (γ : Geometry) where
   -- what the code has found of each
-  pub record Answers (u : Update) (m : List ℕ) (a now : ℕ) (proof : List ℕ) (matches unspent may within : Bool) : Type 0 where
+  pub record Answers (u : Update) (m : List ℕ) (a now : ℕ) (proof : List ℕ) (matches unexhausted may within : Bool) : Type 0 where
     pub tag-is : matches ≡ equal (broughtTag γ proof) (tag γ m (groupOf γ a) (broughtPage γ proof))
-    pub count-is : unspent ≡ ltb (count m (groupOf γ a)) countLimit
+    pub count-is : unexhausted ≡ ltb (count m (groupOf γ a)) countLimit
     pub state-is : may ≡ allowed u (state now (entryAt (broughtPage γ proof) (placeOf γ a)))
     pub limit-is : within ≡ withinLimit (updated u now (entryAt (broughtPage γ proof) (placeOf γ a)))
 
@@ -49,13 +49,13 @@ module _ {γ : Geometry} (σ : Proper γ) where
         → r ≡ equal (broughtTag γ proof) (tag γ m (groupOf γ a) (broughtPage γ proof))
     matches-answer proof g r eg er = er ∙ ap (λ (i : ℕ). equal (broughtTag γ proof) (tag γ m i (broughtPage γ proof))) eg
 
-    pub unspent-answer : (g : ℕ) (r : Bool) → g ≡ groupOf γ a → r ≡ ltb (count m g) countLimit → r ≡ ltb (count m (groupOf γ a)) countLimit
-    unspent-answer g r eg er = er ∙ ap (λ (i : ℕ). ltb (count m i) countLimit) eg
+    pub unexhausted-answer : (g : ℕ) (r : Bool) → g ≡ groupOf γ a → r ≡ ltb (count m g) countLimit → r ≡ ltb (count m (groupOf γ a)) countLimit
+    unexhausted-answer g r eg er = er ∙ ap (λ (i : ℕ). ltb (count m i) countLimit) eg
 
   -- ---- in order
 
-  module _ (u : Update) (m : List ℕ) (a now : ℕ) (proof : List ℕ) (matches unspent may within : Bool)
-      (h : Answers γ u m a now proof matches unspent may within) where
+  module _ (u : Update) (m : List ℕ) (a now : ℕ) (proof : List ℕ) (matches unexhausted may within : Bool)
+      (h : Answers γ u m a now proof matches unexhausted may within) where
     abbrev brought : Entry
     brought = entryAt (broughtPage γ proof) (placeOf γ a)
 
@@ -78,23 +78,23 @@ module _ {γ : Geometry} (σ : Proper γ) where
     after-7 : not matches ≡ false → firstNo from-8 ≡ firstNo asked
     after-7 p7 = goes-on (question7 γ (Change u) m (groupOf γ a) proof) from-8 matches (h .tag-is) p7
 
-    pub no-8 : not matches ≡ false → not unspent ≡ true → 8 ≡ firstNo asked
-    no-8 p7 x = says-no 8 (question8 γ (Change u) m (groupOf γ a)) from-9 unspent refl (h .count-is) x ∙ after-7 p7
+    pub no-8 : not matches ≡ false → not unexhausted ≡ true → 8 ≡ firstNo asked
+    no-8 p7 x = says-no 8 (question8 γ (Change u) m (groupOf γ a)) from-9 unexhausted refl (h .count-is) x ∙ after-7 p7
 
-    after-8 : not matches ≡ false → not unspent ≡ false → firstNo from-9 ≡ firstNo asked
-    after-8 p7 p8 = goes-on (question8 γ (Change u) m (groupOf γ a)) from-9 unspent (h .count-is) p8 ∙ after-7 p7
+    after-8 : not matches ≡ false → not unexhausted ≡ false → firstNo from-9 ≡ firstNo asked
+    after-8 p7 p8 = goes-on (question8 γ (Change u) m (groupOf γ a)) from-9 unexhausted (h .count-is) p8 ∙ after-7 p7
 
-    pub no-9 : not matches ≡ false → not unspent ≡ false → not may ≡ true → 9 ≡ firstNo asked
+    pub no-9 : not matches ≡ false → not unexhausted ≡ false → not may ≡ true → 9 ≡ firstNo asked
     no-9 p7 p8 x = says-no 9 (question9 γ (Change u) now brought) from-10 may refl (h .state-is) x ∙ after-8 p7 p8
 
-    after-9 : not matches ≡ false → not unspent ≡ false → not may ≡ false → firstNo from-10 ≡ firstNo asked
+    after-9 : not matches ≡ false → not unexhausted ≡ false → not may ≡ false → firstNo from-10 ≡ firstNo asked
     after-9 p7 p8 p9 = goes-on (question9 γ (Change u) now brought) from-10 may (h .state-is) p9 ∙ after-8 p7 p8
 
-    pub no-10 : not matches ≡ false → not unspent ≡ false → not may ≡ false → not within ≡ true
+    pub no-10 : not matches ≡ false → not unexhausted ≡ false → not may ≡ false → not within ≡ true
         → 10 ≡ firstNo asked
     no-10 p7 p8 p9 x = says-no 10 (question10 γ (Change u) now brought) [] within refl (h .limit-is) x ∙ after-9 p7 p8 p9
 
-    pub none-no : not matches ≡ false → not unspent ≡ false → not may ≡ false → not within ≡ false
+    pub none-no : not matches ≡ false → not unexhausted ≡ false → not may ≡ false → not within ≡ false
         → 0 ≡ firstNo asked
     unfolding firstNo
     none-no p7 p8 p9 p10 = goes-on (question10 γ (Change u) now brought) [] within (h .limit-is) p10 ∙ after-9 p7 p8 p9

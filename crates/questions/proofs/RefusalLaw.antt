@@ -23,14 +23,14 @@ use Rattle.machine.specs.declared.Kind.the-variants.{Read, Entry, Page, Change,
 use Rattle.machine.specs.Command.{Box, Command, proofSize, answerSize, broughtEntry}
 use Rattle.machine.specs.Question.{Question, question1, question7, question8, question9, question10, question11, contentLength, questionsTo, firstNo, AllYes}
 use Rattle.machine.proofs.QuestionLaw.{numberedTo, accepted-yes, passes-on, says-no, goes-on, ends, not-put-last}
-use Rattle.form.specs.Parts.{formQuestions}
-use Rattle.questions.specs.Parts.{changeQuestions}
+use Rattle.arguments.specs.ArgumentQuestions.{argumentQuestions}
+use Rattle.questions.specs.ChangeQuestions.{changeQuestions}
 
 -- γ is the box's geometry
 module _ (γ : Geometry) where
   -- questions 2 to 6
-  abbrev form : Kind → Box → Command → List Question
-  form k s c = formQuestions γ k (s .memory) (s .disk) (c .block) (c .now) (c .content) (c .proof) (c .answer)
+  abbrev arguments : Kind → Box → Command → List Question
+  arguments k s c = argumentQuestions γ k (s .memory) (s .disk) (c .block) (c .now) (c .content) (c .proof) (c .answer)
 
   -- those after them
   abbrev pub rest : Kind → Box → Command → List Question
@@ -45,7 +45,7 @@ module _ (γ : Geometry) where
   -- the first six have yes
   pub record Formed (k : Kind) (s : Box) (c : Command) : Type 0 where
     pub memory : valid γ (s .memory) ≡ true
-    pub yes-form : AllYes (form k s c)
+    pub yes-arguments : AllYes (arguments k s c)
 
 -- γ is any proper geometry
 module _ {γ : Geometry} (σ : Proper γ) where
@@ -65,36 +65,36 @@ module _ {γ : Geometry} (σ : Proper γ) where
 
   -- ---- question 1, then 2 to 6
 
-  form-numbered : (k : Kind) (s : Box) (c : Command) → numberedTo 6 (form γ k s c) ≡ true
+  arguments-numbered : (k : Kind) (s : Box) (c : Command) → numberedTo 6 (arguments γ k s c) ≡ true
   unfolding numberedTo
-  form-numbered Read s c = refl
-  form-numbered Entry s c = refl
-  form-numbered Page s c = refl
-  form-numbered (Change u) s c = refl
-  form-numbered Sync s c = refl
-  form-numbered Restart s c = refl
-  form-numbered NewSalt s c = refl
-  form-numbered Identify s c = refl
-  form-numbered Unknown s c = refl
+  arguments-numbered Read s c = refl
+  arguments-numbered Entry s c = refl
+  arguments-numbered Page s c = refl
+  arguments-numbered (Change u) s c = refl
+  arguments-numbered Sync s c = refl
+  arguments-numbered Restart s c = refl
+  arguments-numbered NewSalt s c = refl
+  arguments-numbered Identify s c = refl
+  arguments-numbered Unknown s c = refl
 
   -- r is the answer to question 1
   module _ (k : Kind) (s : Box) (c : Command) (r : Bool) (e : r ≡ valid γ (s .memory)) where
     pub invalid-refused : not r ≡ true → 1 ≡ firstNo (questionsTo γ k s c)
-    invalid-refused h = says-no 1 (question1 γ (s .memory)) (form γ k s c ++ rest γ k s c) r refl e h
+    invalid-refused h = says-no 1 (question1 γ (s .memory)) (arguments γ k s c ++ rest γ k s c) r refl e h
 
     -- n is the number that the next five gave
-    module _ (v : not r ≡ false) (n : ℕ) (en : n ≡ firstNo (form γ k s c)) where
+    module _ (v : not r ≡ false) (n : ℕ) (en : n ≡ firstNo (arguments γ k s c)) where
       pub form-refused : (n ≡ 0 → ⊥) → n ≡ firstNo (questionsTo γ k s c)
       form-refused h =
           en
-          ∙ sym (ends (form γ k s c) (rest γ k s c) (λ z. h (en ∙ z)))
-          ∙ goes-on (question1 γ (s .memory)) (form γ k s c ++ rest γ k s c) r e v
+          ∙ sym (ends (arguments γ k s c) (rest γ k s c) (λ z. h (en ∙ z)))
+          ∙ goes-on (question1 γ (s .memory)) (arguments γ k s c ++ rest γ k s c) r e v
 
       pub formed : n ≡ 0 → Formed γ k s c
       formed z =
           record {
             memory = sym e ∙ eq-true-of-not-eq-false' v;
-            yes-form = accepted-yes 6 (form γ k s c) (form-numbered k s c) (sym en ∙ z);
+            yes-arguments = accepted-yes 6 (arguments γ k s c) (arguments-numbered k s c) (sym en ∙ z);
           }
 
   -- ---- what is left, by kind
@@ -103,7 +103,7 @@ module _ {γ : Geometry} (σ : Proper γ) where
     to-rest : (j : Kind) → k ≡ j → firstNo (rest γ j s c) ≡ firstNo (questionsTo γ k s c)
     to-rest j ej =
         ap (λ (i : Kind). firstNo (rest γ i s c)) (sym ej)
-        ∙ sym (passes-on (question1 γ (s .memory) ∷ form γ k s c) (rest γ k s c) (h .memory, h .yes-form))
+        ∙ sym (passes-on (question1 γ (s .memory) ∷ arguments γ k s c) (rest γ k s c) (h .memory, h .yes-arguments))
 
     pub nothing-left : (j : Kind) → k ≡ j → firstNo (rest γ j s c) ≡ 0 → 0 ≡ firstNo (questionsTo γ k s c)
     nothing-left j ej none = sym none ∙ to-rest j ej
@@ -117,19 +117,19 @@ module _ {γ : Geometry} (σ : Proper γ) where
       change-left n en =
           en ∙ sym (not-put-last (changeQuestions γ u (s .memory) (c .block) (c .now) (c .proof))) ∙ to-rest (Change u) ej
 
-      change-form : AllYes (form γ (Change u) s c)
-      change-form = subst (λ (i : Kind). AllYes (form γ i s c)) ej (h .yes-form)
+      change-arguments : AllYes (arguments γ (Change u) s c)
+      change-arguments = subst (λ (i : Kind). AllYes (arguments γ i s c)) ej (h .yes-arguments)
 
       pub change-group : groupOf γ (c .block) < γ .mostGroups
       change-group =
           let blocks = dataBlocks γ (groups γ (s .memory)) in
-          let below = groupOf-below σ (groups γ (s .memory)) (c .block) (ltb-true (c .block) blocks (change-form .1 .1 .1 .0)) in
+          let below = groupOf-below σ (groups γ (s .memory)) (c .block) (ltb-true (c .block) blocks (change-arguments .1 .1 .1 .0)) in
           omega (arith, below, facts σ (s .memory) (h .memory) .most)
 
       pub change-early : c .now ≤ latestTime
       change-early =
           leb-true (c .now) latestTime
-          (and-elim-right (leb (lastTime γ (s .memory)) (c .now)) (leb (c .now) latestTime) (change-form .1 .1 .0))
+          (and-elim-right (leb (lastTime γ (s .memory)) (c .now)) (leb (c .now) latestTime) (change-arguments .1 .1 .0))
 
       pub change-proof : length (c .proof) ≡ proofSize γ
       change-proof =
@@ -137,4 +137,4 @@ module _ {γ : Geometry} (σ : Proper γ) where
           let proof = eqb (length (c .proof)) (proofSize γ) in
           let answer = eqb (length (c .answer)) (answerSize γ) in
           eqb-true (length (c .proof)) (proofSize γ)
-          (and-elim-left proof answer (and-elim-right content (proof && answer) (change-form .1 .1 .1 .1 .0)))
+          (and-elim-left proof answer (and-elim-right content (proof && answer) (change-arguments .1 .1 .1 .1 .0)))

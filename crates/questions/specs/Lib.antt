@@ -1,2 +1,2 @@
 -- Questions 7 to 10 as the code asks them.
-pub mod Parts
+pub mod ChangeQuestions

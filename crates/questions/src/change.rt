@@ -12,14 +12,14 @@ ghost use Rattle.memory.specs.Memory.{count};
 ghost use Rattle.validity.specs.Valid.{countLimit};
 ghost use Rattle.machine.specs.Command.{proofSize, broughtPage};
 ghost use Rattle.machine.specs.Question.{firstNo};
-ghost use Rattle.questions.specs.Parts.{changeQuestions};
+ghost use Rattle.questions.specs.ChangeQuestions.{changeQuestions};
 use lockpage::Entry;
 use lockpage::Update;
 use lockpage::states;
 use lockpage::updates;
 
 // Question 8.
-fn is_unspent(memory: &[u8], group: u32) -> bool
+fn is_unexhausted(memory: &[u8], group: u32) -> bool
     requires { ⌜ (length (now memory) ≡ memorySize present) × (group < present .mostGroups) ⌝ }
     ensures { λ r. ⌜ r ≡ ltb (count (now (memory .entry)) group) countLimit ⌝ }
 {
@@ -43,14 +43,14 @@ pub(crate) fn refusal(memory: &[u8], u: Update, block: u32, time: u32, proof: &[
     let group = addressing::group_of(block);
     let e = brought_entry(proof, block);
     let matches = tags::matches(memory, group, proof);
-    let unspent = is_unspent(memory, group);
+    let unexhausted = is_unexhausted(memory, group);
     let allowed = updates::allowed(u, states::state(e, time));
     let within = updates::within_limit(u, time, e);
     if !matches {
         return machine::TAG_WRONG;
     }
-    if !unspent {
-        return machine::COUNT_SPENT;
+    if !unexhausted {
+        return machine::COUNT_EXHAUSTED;
     }
     if !allowed {
         return machine::STATE_WRONG;

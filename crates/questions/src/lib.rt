@@ -39,7 +39,7 @@ pub fn refusal(
     if !validity::valid(memory) {
         return machine::MEMORY_INVALID;
     }
-    let n = form::refusal(memory, disk, k, block, time, content, proof, answer);
+    let n = arguments::refusal(memory, disk, k, block, time, content, proof, answer);
     if n != machine::ACCEPTED {
         return n;
     }

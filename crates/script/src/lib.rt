@@ -7,7 +7,7 @@ ghost use mathlib.Core.Path.{_≡_};
 ghost use Prim.Native.Nat.{_≤_};
 ghost use lib.ListN.{length};
 ghost use Rattle.machine.specs.Command.{boxOf};
-ghost use Rattle.script_printout.specs.Printout.{formatted};
+ghost use Rattle.script_printout.specs.Printout.{scriptBox};
 ghost use Rattle.script_printout.specs.Reader.{begun, fedOf};
 ghost use Rattle.script_printout.specs.Reader as R;
 use addressing::GROUP_SIZE;
@@ -26,7 +26,7 @@ pub struct Fed {
 
 // Formats the box of a script, one group with a zero salt, and answers the reader of its first byte.
 pub fn begin(memory: &mut [u8; MEMORY_SIZE], disk: &mut [u8; GROUP_SIZE]) -> Reader
-    ensures { λ r. ⌜ (r ≡ begun) × (boxOf (now (memory .exit)) (now (disk .exit)) ≡ formatted (boxOf (now (memory .entry)) (now (disk .entry)))) ⌝ }
+    ensures { λ r. ⌜ (r ≡ begun) × (boxOf (now (memory .exit)) (now (disk .exit)) ≡ scriptBox (boxOf (now (memory .entry)) (now (disk .entry)))) ⌝ }
 {
     let salt = [0u8; SALT_SIZE];
     controller::format(memory, disk, 1, &salt);

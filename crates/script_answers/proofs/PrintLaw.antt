@@ -13,7 +13,7 @@ use Rattle.octets.proofs.ReplacedLaw.{replaced-length, replaced-append, replace
 use Rattle.decimal.specs.Decimal.{decimal, signedDecimal}
 use Rattle.decimal.proofs.DecimalLaw.{decimal-size-64, signed-size}
 use Rattle.script_lines.specs.declared.Values.{Values}
-use Rattle.script_lines.specs.Form.{space, newline}
+use Rattle.script_lines.specs.Syntax.{space, newline}
 use Rattle.script_answers.specs.declared.Shown.{Shown}
 use Rattle.script_answers.specs.Answer.{spaced, mostSpaced, lineShown, mostPrinted}
 
@@ -31,7 +31,7 @@ behind l at text m here new r end p h q = (
 
 -- a byte behind it
 record Byte (l : List ℕ) (at : ℕ) (text m : List ℕ) (here b : ℕ) : Type 0 where
-  pub room : here < length m
+  pub inside : here < length m
   pub size : length m ≡ length l
   pub put : Printed l at (text ++ (b ∷ [])) (set m here b) (here + 1)
 
@@ -40,7 +40,7 @@ byte-behind : (l : List ℕ) (at : ℕ) (text m : List ℕ) (here b : ℕ) → P
 byte-behind l at text m here b p h =
     let size : length m ≡ length l = ap length (p .0) ∙ replaced-length l at text (omega (arith, p .1)) in
     record {
-      room = omega arith;
+      inside = omega arith;
       size = size;
       put = behind l at text m here (b ∷ []) (set m here b) (here + 1) p (omega arith) (replaced-sets m here (b ∷ []) (omega arith), omega arith);
     }
@@ -48,7 +48,7 @@ byte-behind l at text m here b p h =
 -- ---- a number and a space
 
 pub record Spaced (l : List ℕ) (at n : ℕ) (m : List ℕ) (end : ℕ) : Type 0 where
-  pub room : end < length m
+  pub inside : end < length m
   pub within : end < at + mostSpaced
   pub put : Printed l at (spaced n) (set m end space) (end + 1)
 
@@ -57,7 +57,7 @@ pub spaced-put : (l : List ℕ) (at n : ℕ) (m : List ℕ) (end : ℕ) → n < 
 spaced-put l at n m end f h e =
     let within : end < at + mostSpaced = omega (arith, e .1, decimal-size-64 n f) in
     let b = byte-behind l at (decimal n) m end space e (omega arith) in
-    record { room = b .room; within = within; put = b .put }
+    record { inside = b .inside; within = within; put = b .put }
 
 -- ---- the line
 
@@ -79,7 +79,7 @@ pub record Five (l : List ℕ) (at : ℕ) (v : Values) (s : Shown) (m : List ℕ
   pub put : Printed l at ((((spaced (v .kind) ++ spaced (v .block)) ++ spaced (v .time)) ++ spaced (s .number)) ++ spaced (s .state)) m end
 
 pub record Line (l : List ℕ) (at : ℕ) (v : Values) (s : Shown) (m : List ℕ) (end : ℕ) : Type 0 where
-  pub room : end < length m
+  pub inside : end < length m
   pub size : length m ≡ length l
   pub within : end + 1 ≤ at + mostPrinted
   pub put : Printed l at (lineShown v s) (set m end newline) (end + 1)
@@ -96,8 +96,8 @@ module _ (l : List ℕ) (at : ℕ) (v : Values) (s : Shown) (h : at + mostPrinte
       record { size = ap length (p₅ .0) ∙ replaced-length l at _ (omega arith); within = omega arith; put = p₅ }
 
   module _ (m : List ℕ) (i : ℕ) (p : Five l at v s m i) (f : SFits w64 (s .left)) where
-    pub left-room : i + length (signedDecimal (passed (s .left))) ≤ length m
-    left-room = rw (toZ-ofZ w64 (s .left) f) (omega (arith, signed-size (s .left) f, p .size, p .within))
+    pub left-within : i + length (signedDecimal (passed (s .left))) ≤ length m
+    left-within = rw (toZ-ofZ w64 (s .left) f) (omega (arith, signed-size (s .left) f, p .size, p .within))
 
     pub line-put : (n : List ℕ) (end : ℕ) → Printed m i (signedDecimal (passed (s .left))) n end → Line l at v s n end
     unfolding lineShown
@@ -109,7 +109,7 @@ module _ (l : List ℕ) (at : ℕ) (v : Values) (s : Shown) (h : at + mostPrinte
         let text = grouped (spaced (v .kind)) (spaced (v .block)) (spaced (v .time)) (spaced (s .number)) (spaced (s .state))
         (signedDecimal (s .left)) (newline ∷ []) in
         record {
-          room = b .room;
+          inside = b .inside;
           size = b .size;
           within = within;
           put = (b .put .0 ∙ ap (replaced l at) text, b .put .1 ∙ ap (λ (x : List ℕ). at + length x) text);

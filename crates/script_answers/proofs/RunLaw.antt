@@ -63,15 +63,15 @@ module _ (kind n : ℕ) (m disk a : List ℕ) (o : Outcome) (e : outcomeOf n m d
 -- ---- the page
 
 -- t is the last time
-pub page-got : (m disk after room memory page : List ℕ) (t n : ℕ) → t ≡ lastTime present m → room ≡ buffer
-    → outcomeOf n memory after page ≡ step present (boxOf m disk) (commandOf 3 0 t 0 [] [] room)
-    → (boxOf memory after ≡ pageGot (boxOf m disk) .box) × (page ≡ pageGot (boxOf m disk) .answer)
+pub page-got : (m disk disk' out memory page : List ℕ) (t n : ℕ) → t ≡ lastTime present m → out ≡ buffer
+    → outcomeOf n memory disk' page ≡ step present (boxOf m disk) (commandOf 3 0 t 0 [] [] out)
+    → (boxOf memory disk' ≡ pageGot (boxOf m disk) .box) × (page ≡ pageGot (boxOf m disk) .answer)
 unfolding pageGot
-page-got m disk after room memory page t n et er e =
+page-got m disk disk' out memory page t n et er e =
     let got = e ∙ ap₂ (λ (x : ℕ) (y : List ℕ). step present (boxOf m disk) (commandOf 3 0 x 0 [] [] y)) et er in
     (ap (λ (o : Outcome). o .box) got, ap (λ (o : Outcome). o .answer) got)
 
--- the room for it is filled or left as it was
+-- the out for it is filled or left as it was
 page-size : (s : Box) → answerSize present ≡ length (pageGot s .answer)
 unfolding pageGot buffer
 page-size s =
@@ -101,7 +101,7 @@ content-within Unknown = omega arith
 pub within : (k : Kind) (n : ℕ) → n ≡ contentLength present k → n ≤ blockSize present
 within k n e = omega (arith, content-within k)
 
--- the first n of the room for the data
+-- the first n of the out for the data
 pub content-of : (n b : ℕ) → n ≤ blockSize present → take n (replicate (blockSize present) b) ≡ repeated n b
 unfolding repeated part
 content-of n b h = repeated-part (blockSize present) b 0 n (omega arith)

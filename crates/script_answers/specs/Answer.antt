@@ -18,7 +18,7 @@ use Rattle.machine.specs.Question.{contentLength, proofLength}
 use Rattle.machine.specs.Step.{step}
 use Rattle.decimal.specs.Decimal.{decimal, signedDecimal}
 use Rattle.script_lines.specs.declared.Values.{Values}
-use Rattle.script_lines.specs.Form.{space, newline}
+use Rattle.script_lines.specs.Syntax.{space, newline}
 use Rattle.script_answers.specs.declared.Shown.{Shown}
 
 -- ---- the command
@@ -27,12 +27,12 @@ use Rattle.script_answers.specs.declared.Shown.{Shown}
 unfoldable pub buffer : List ℕ
 buffer = repeated (answerSize present) 0
 
-abbrev pub kindOf : Values → Kind
-kindOf v = kindNumbered (v .kind) (v .value)
+abbrev pub lineKind : Values → Kind
+lineKind v = kindNumbered (v .kind) (v .value)
 
 -- "Write data are 512 bytes, new salt 32, of value mod 256": as many as the kind brings
 abbrev pub contentOf : Values → List ℕ
-contentOf v = repeated (contentLength present (kindOf v)) (v .value % 256)
+contentOf v = repeated (contentLength present (lineKind v)) (v .value % 256)
 
 -- the command of a line, with the page and tag that it brings
 abbrev pub commandFor : Values → List ℕ → Command
@@ -45,7 +45,7 @@ pageGot s = step present s (commandOf 3 0 (lastTime present (s .memory)) 0 [] []
 -- "Before kinds 4 to 6", which are those that bring a proof
 unfoldable pub ran : Box → Values → Outcome
 ran s v =
-    elim (eqb (proofLength present (kindOf v)) 0) [
+    elim (eqb (proofLength present (lineKind v)) 0) [
       | true ↦ step present s (commandFor v [])
       | false ↦ step present (pageGot s .box) (commandFor v (pageGot s .answer))
     ]

@@ -8,7 +8,7 @@ ghost use Rattle.machine.specs.Step.{step};
 ghost use Rattle.script_answers.specs.Answer.{buffer, pageGot, ranOf, ranWith, ranLine};
 use addressing::BLOCK_SIZE;
 use addressing::GROUP_SIZE;
-use form::kinds;
+use arguments::kinds;
 use lockpage::ENTRY_SIZE;
 use lockpage::states::TIME_LEFT_SIZE;
 use memory::layout::MEMORY_SIZE;

@@ -8,7 +8,7 @@ use native.Mathlib.Omega.{arith}
 use borrow.Author.Tests.{eqb-true, eq-eqb, ne-eqb}
 use lib.Dec.{eqb}
 use lib.ListN.{length}
-use Rattle.script_lines.specs.Form.{inFront, cut}
+use Rattle.script_lines.specs.Syntax.{inFront, cut}
 
 -- no byte of a text is the separator
 abbrev pub Without : ℕ → List ℕ → Type 0

@@ -14,7 +14,7 @@ use Rattle.octets.specs.Part.{equal}
 use Rattle.octets.proofs.EqualLaw.{equal-true, equal-yes}
 use Rattle.decimal.specs.Decimal.{zeroDigit, decimal, spelledAfter, spelled}
 use Rattle.decimal.proofs.DecimalLaw.{decimal-one, decimal-digits, decimal-some, decimal-first, spelled-append, spelled-grows, spelled-decimal}
-use Rattle.script_lines.specs.Form.{space, mostValue, isValue}
+use Rattle.script_lines.specs.Syntax.{space, mostValue, isValue}
 use Rattle.script_lines.proofs.CutLaw.{Without}
 
 -- ---- a value

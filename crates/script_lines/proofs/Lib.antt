@@ -3,6 +3,6 @@ pub mod CutLaw
 pub mod ReadingLaw
 pub mod StepLaw
 pub mod FieldLaw
-pub mod FormLaw
+pub mod SyntaxLaw
 pub mod LineLaw
 pub mod Theorems

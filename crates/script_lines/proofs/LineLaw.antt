@@ -17,12 +17,12 @@ use Rattle.script_lines.specs.declared.Next.{Next}
 use Rattle.script_lines.specs.declared.Next.the-variants.{Going, Wrong}
 use Rattle.script_lines.specs.declared.Judged.{Judged}
 use Rattle.script_lines.specs.declared.Judged.the-variants.{Right, Malformed}
-use Rattle.script_lines.specs.Form.{space, fields, mostValue, isValue, parsed}
+use Rattle.script_lines.specs.Syntax.{space, fields, mostValue, isValue, parsed}
 use Rattle.script_lines.specs.Reading.{blank, afterSpace, afterDigit, afterByte, readOn, judged, verdict}
 use Rattle.script_lines.proofs.CutLaw.{Without, cut-at, cut-field, cut-separator, cut-some}
 use Rattle.script_lines.proofs.ReadingLaw.{wrong-stays}
 use Rattle.script_lines.proofs.FieldLaw.{decimal-without, empty-no, other-no, above-no, leading-no}
-use Rattle.script_lines.proofs.FormLaw.{ended, ended-more, malformed-field, malformed-behind, malformed-many, four-right}
+use Rattle.script_lines.proofs.SyntaxLaw.{ended, ended-more, malformed-field, malformed-behind, malformed-many, four-right}
 
 -- ---- what is kept of a line
 

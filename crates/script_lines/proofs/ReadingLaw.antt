@@ -7,7 +7,7 @@ use native.Mathlib.Omega.{arith}
 use borrow.Author.Tests.{ne-eqb}
 use lib.Dec.{eqb, ltb, leb}
 use Rattle.decimal.specs.Decimal.{zeroDigit}
-use Rattle.script_lines.specs.Form.{space, mostValue}
+use Rattle.script_lines.specs.Syntax.{space, mostValue}
 use Rattle.script_lines.specs.declared.Line.{Line}
 use Rattle.script_lines.specs.declared.Next.{Next}
 use Rattle.script_lines.specs.declared.Next.the-variants.{Going, Wrong}

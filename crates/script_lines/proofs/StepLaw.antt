@@ -5,7 +5,7 @@ use Prim.Native.Nat.{ℕ, _+_, _-_, _*_, _≤_, _<_}
 use lib.Dec.{eqb}
 use borrow.Author.Tests.{lt-ltb, le-ltb, le-leb, lt-leb, eq-eqb, ne-eqb}
 use Rattle.decimal.specs.Decimal.{zeroDigit}
-use Rattle.script_lines.specs.Form.{space, mostValue}
+use Rattle.script_lines.specs.Syntax.{space, mostValue}
 use Rattle.script_lines.specs.declared.Line.{Line}
 use Rattle.script_lines.specs.declared.Next.the-variants.{Going, Wrong}
 use Rattle.script_lines.specs.declared.Judged.the-variants.{Right, Malformed}

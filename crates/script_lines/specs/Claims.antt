@@ -6,7 +6,7 @@ use Rattle.decimal.specs.Decimal.{decimal}
 use Rattle.script_lines.specs.declared.Values.{Values}
 use Rattle.script_lines.specs.declared.Next.the-variants.{Going}
 use Rattle.script_lines.specs.declared.Judged.the-variants.{Right}
-use Rattle.script_lines.specs.Form.{space, mostValue, parsed}
+use Rattle.script_lines.specs.Syntax.{space, mostValue, parsed}
 use Rattle.script_lines.specs.Reading.{blank, readOn, verdict}
 
 -- a line read byte by byte is judged as the form says
@@ -24,7 +24,7 @@ pub record Within (v : Values) : Type 0 where
   pub time : v .time ≤ mostValue
   pub value : v .value ≤ mostValue
 
-pub record FormOfLine : Type 0 where
+pub record SyntaxOfLine : Type 0 where
   -- the line of any four values is of the form, and they are its values
   pub spelled : (v : Values) → Within v → parsed (lineOf v) ≡ Right v
   -- and there is no other

@@ -1,4 +1,4 @@
 -- The definitions that the contracts of script_lines cite, and the claims about them.
-pub mod Form
+pub mod Syntax
 pub mod Reading
 pub mod Claims

@@ -1,11 +1,11 @@
--- A line read byte by byte, by what is kept of it. That this comes to what Form says of the line is the claim LineRead. Assumes nothing:
+-- A line read byte by byte, by what is kept of it. That this comes to what Syntax says of the line is the claim LineRead. Assumes nothing:
 -- these are definitions.
 use mathlib.Core.Bool.{Bool, true, false, _&&_, _||_, not}
 use mathlib.Core.List.{List, [], _∷_}
 use Prim.Native.Nat.{ℕ, _+_, _-_, _*_}
 use lib.Dec.{eqb, ltb, leb}
 use Rattle.decimal.specs.Decimal.{zeroDigit}
-use Rattle.script_lines.specs.Form.{space, mostValue}
+use Rattle.script_lines.specs.Syntax.{space, mostValue}
 use Rattle.script_lines.specs.declared.Line.{Line}
 use Rattle.script_lines.specs.declared.Next.{Next}
 use Rattle.script_lines.specs.declared.Next.the-variants.{Going, Wrong}

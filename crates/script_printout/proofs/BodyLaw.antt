@@ -14,7 +14,7 @@ use Rattle.script_lines.specs.declared.Next.{Next}
 use Rattle.script_lines.specs.declared.Next.the-variants.{Going, Wrong}
 use Rattle.script_lines.specs.declared.Judged.{Judged}
 use Rattle.script_lines.specs.declared.Judged.the-variants.{Right, Malformed}
-use Rattle.script_lines.specs.Form.{newline, cut, lines, parsed}
+use Rattle.script_lines.specs.Syntax.{newline, cut, lines, parsed}
 use Rattle.script_lines.specs.Reading.{blank, isBlank, afterByte, readOn, judged, verdict}
 use Rattle.script_lines.proofs.CutLaw.{Without, without-append, cut-at, cut-line, cut-further}
 use Rattle.script_lines.proofs.ReadingLaw.{wrong-stays, readOn-append, going-not-blank}

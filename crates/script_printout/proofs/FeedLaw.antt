@@ -15,7 +15,7 @@ use Rattle.machine.specs.Command.{Box}
 use Rattle.script_answers.specs.Answer.{mostPrinted}
 use Rattle.script_printout.specs.declared.Reader.{Reader}
 use Rattle.script_printout.specs.declared.Progress.{Progress}
-use Rattle.script_printout.specs.Reader.{Printing, printing, byteRead, after, pieceRead, inputEnd, Placed, placed, fedOf, fed, finished}
+use Rattle.script_printout.specs.Reader.{Printing, printing, byteRead, prefixed, pieceRead, inputEnd, Placed, placed, fedOf, fed, finished}
 use Rattle.script_printout.proofs.PlaceLaw.{PrintsOn, placed-none, placed-text}
 
 -- i bytes of a piece are read, and what they printed stands at the buffer's start
@@ -23,9 +23,9 @@ pub record Feeding (r : Reader) (s : Box) (piece out : List ℕ) (p : Progress) 
   pub printed : List ℕ
   pub stands : now ≡ replaced out 0 printed
   pub end : p .end ≡ length printed
-  pub rest : pieceRead r s piece ≡ after printed (pieceRead (p .reader) t (drop i piece))
+  pub rest : pieceRead r s piece ≡ prefixed printed (pieceRead (p .reader) t (drop i piece))
   pub within : i ≤ length piece
-  pub room : p .end + (length piece - i) * mostPrinted ≤ length out
+  pub inside : p .end + (length piece - i) * mostPrinted ≤ length out
 
 module _ (r : Reader) (s : Box) (piece out : List ℕ) where
   pub feeding-start : (p : Progress) → p .reader ≡ r → p .end ≡ 0 → length piece * mostPrinted ≤ length out → Feeding r s piece out p s out 0
@@ -36,19 +36,19 @@ module _ (r : Reader) (s : Box) (piece out : List ℕ) where
         end = f;
         rest = ap (λ (x : Reader). pieceRead x s piece) (sym e);
         within = omega arith;
-        room = omega (arith, f);
+        inside = omega (arith, f);
       }
 
   module _ (p : Progress) (t : Box) (now : List ℕ) (i : ℕ) (f : Feeding r s piece out p t now i) where
     pub feeding-size : length now ≡ length out
-    feeding-size = ap length (f .stands) ∙ replaced-length out 0 (f .printed) (omega (arith, f .room, f .end))
+    feeding-size = ap length (f .stands) ∙ replaced-length out 0 (f .printed) (omega (arith, f .inside, f .end))
 
     -- all of it is read
     done : length piece ≤ i → pieceRead r s piece ≡ printing (p .reader) t (f .printed)
     unfolding pieceRead
     done h =
         f .rest
-        ∙ ap (λ (x : List ℕ). after (f .printed) (pieceRead (p .reader) t x)) (drop-of-length-le piece h)
+        ∙ ap (λ (x : List ℕ). prefixed (f .printed) (pieceRead (p .reader) t x)) (drop-of-length-le piece h)
         ∙ ap (printing (p .reader) t) (append-nil (f .printed))
 
     pub feeding-end : length piece * mostPrinted ≤ length out → length piece ≤ i → (fedOf true p t now ≡ fed r s piece out) × (p .end ≤ length out)
@@ -58,7 +58,7 @@ module _ (r : Reader) (s : Box) (piece out : List ℕ) where
           (placed-text p (p .reader) t (f .printed) out now 0 refl (f .stands) (f .end ∙ sym (zero-add (length (f .printed))))
           ∙ ap (placed out 0) (sym (done h)))
           ∙ sym (rw (le-leb (length piece * mostPrinted) (length out) fits, fed)),
-      omega (arith, f .room),
+      omega (arith, f .inside),
     )
 
     module _ (b : ℕ) (p' : Progress) (t' : Box) (now' : List ℕ) (below : i < length piece) (same : b ≡ getD piece i 0)
@@ -72,11 +72,11 @@ module _ (r : Reader) (s : Box) (piece out : List ℕ) where
         behind = ap (λ (x : Placed). x .end) (w .0)
 
         -- the rest of the piece begins with the byte
-        goes-on : pieceRead (p .reader) t (drop i piece) ≡ after (step .printed) (pieceRead (p' .reader) t' (drop (i + 1) piece))
+        goes-on : pieceRead (p .reader) t (drop i piece) ≡ prefixed (step .printed) (pieceRead (p' .reader) t' (drop (i + 1) piece))
         unfolding placed pieceRead
         goes-on =
             ap (pieceRead (p .reader) t) (drop-cons piece i 0 below ∙ ap₂ (λ (c : ℕ) (n : ℕ). c ∷ drop n piece) (sym same) (sym (add-one i)))
-            ∙ ap₂ (λ (x : Reader) (y : Box). after (step .printed) (pieceRead x y (drop (i + 1) piece)))
+            ∙ ap₂ (λ (x : Reader) (y : Box). prefixed (step .printed) (pieceRead x y (drop (i + 1) piece)))
             (sym (ap (λ (x : Placed). x .reader) (w .0))) (sym (ap (λ (x : Placed). x .box) (w .0)))
 
         pub feeding-step : Feeding r s piece out p' t' now' (i + 1)
@@ -86,12 +86,12 @@ module _ (r : Reader) (s : Box) (piece out : List ℕ) where
             record {
               printed = f .printed ++ step .printed;
               stands = replaced-next out now (f .printed) (step .printed) now' (p .end) (f .stands) (f .end)
-                  (omega (arith, f .room, behind, w .1, below)) (ap (λ (x : Placed). x .out) (w .0));
+                  (omega (arith, f .inside, behind, w .1, below)) (ap (λ (x : Placed). x .out) (w .0));
               end = behind ∙ omega (arith, f .end, length-append (f .printed) (step .printed));
-              rest = f .rest ∙ ap (after (f .printed)) goes-on
+              rest = f .rest ∙ ap (prefixed (f .printed)) goes-on
                   ∙ ap (printing (last .reader) (last .box)) (sym (append-assoc (f .printed) (step .printed) (last .printed)));
               within = omega (arith, below);
-              room = omega (arith, f .room, w .1, below);
+              inside = omega (arith, f .inside, w .1, below);
             }
 
   -- no room

@@ -12,7 +12,7 @@ use lib.ListN.{length, take, getD, length-append}
 use lib.Seq.{take-suc, take-length, length-take-le, getD-at}
 use Rattle.octets.proofs.EqualLaw.{equal-yes, equal-no}
 use Rattle.machine.specs.Command.{Box}
-use Rattle.script_lines.specs.Form.{newline, cut, lines}
+use Rattle.script_lines.specs.Syntax.{newline, cut, lines}
 use Rattle.script_lines.specs.Reading.{blank}
 use Rattle.script_lines.proofs.CutLaw.{Without, cut-at, cut-line, cut-further}
 use Rattle.script_printout.specs.declared.Stage.the-variants.{Header, Body}

@@ -14,14 +14,14 @@ use Rattle.script_lines.specs.declared.Values.{Values}
 use Rattle.script_lines.specs.declared.Line.{Line}
 use Rattle.script_lines.specs.declared.Next.the-variants.{Going, Wrong}
 use Rattle.script_lines.specs.declared.Judged.the-variants.{Right, Malformed}
-use Rattle.script_lines.specs.Form.{newline}
+use Rattle.script_lines.specs.Syntax.{newline}
 use Rattle.script_lines.specs.Reading.{blank, isBlank, afterByte, judged}
 use Rattle.script_answers.specs.Answer.{ranLine, lineShown}
 use Rattle.script_printout.specs.declared.Stage.{Stage}
 use Rattle.script_printout.specs.declared.Stage.the-variants.{Header, Body, Ended}
 use Rattle.script_printout.specs.declared.Reader.{Reader}
 use Rattle.script_printout.specs.Printout.{header, heading}
-use Rattle.script_printout.specs.Reader.{Printing, printing, readerOf, mostNumber, nextNumber, stopped, headerEnd, lineEnd, headerByte, bodyByte, byteRead, after, pieceRead, bodyEnd, inputEnd}
+use Rattle.script_printout.specs.Reader.{Printing, printing, readerOf, mostNumber, nextNumber, stopped, headerEnd, lineEnd, headerByte, bodyByte, byteRead, prefixed, pieceRead, bodyEnd, inputEnd}
 
 pub number-last : nextNumber mostNumber ≡ mostNumber
 unfolding nextNumber
@@ -155,10 +155,10 @@ whole-next r s b input p e =
     (inputEnd (pieceRead (p .reader) (p .box) input .reader) (pieceRead (p .reader) (p .box) input .box) .printed))
 
 pub piece-append : (r : Reader) (s : Box) (x y : List ℕ)
-    → pieceRead r s (x ++ y) ≡ after (pieceRead r s x .printed) (pieceRead (pieceRead r s x .reader) (pieceRead r s x .box) y)
+    → pieceRead r s (x ++ y) ≡ prefixed (pieceRead r s x .printed) (pieceRead (pieceRead r s x .reader) (pieceRead r s x .box) y)
 unfolding pieceRead
 piece-append r s [] y = refl
 piece-append r s (b ∷ x) y =
     let p = byteRead r s b in
-    ap (after (p .printed)) (piece-append (p .reader) (p .box) x y)
+    ap (prefixed (p .printed)) (piece-append (p .reader) (p .box) x y)
     ∙ ap (printing _ _) (sym (append-assoc (p .printed) (pieceRead (p .reader) (p .box) x .printed) _))

@@ -12,7 +12,7 @@ use Rattle.octets.specs.Part.{part, replaced}
 use Rattle.octets.proofs.ReplacedLaw.{replaced-length, replaced-append, replaced-sets, all-copied}
 use Rattle.decimal.specs.Decimal.{decimal}
 use Rattle.decimal.proofs.DecimalLaw.{decimal-size-64}
-use Rattle.script_lines.specs.Form.{newline}
+use Rattle.script_lines.specs.Syntax.{newline}
 use Rattle.script_answers.specs.Answer.{mostPrinted}
 use Rattle.script_printout.specs.Printout.{header, heading, bad, badLine}
 
@@ -57,7 +57,7 @@ heading-put l r at e = (all-copied l heading r at 33 heading-length e, omega (ar
 
 -- the line end of a bad line: m has what stands before it, and end is the place behind that
 pub record Rest (l : List ℕ) (at n : ℕ) (m : List ℕ) (end : ℕ) : Type 0 where
-  pub room : end < length m
+  pub inside : end < length m
   pub fits : end + 1 ≤ length l
   pub put : (set m end newline ≡ replaced l at (badLine n)) × (end + 1 ≡ at + length (badLine n))
 
@@ -77,7 +77,7 @@ bad-line-put l at n k m end h e f =
     let place : end ≡ at + length text = omega (arith, f .1) in
     let same : length m ≡ length l = ap length before ∙ replaced-length l at text (omega arith) in
     record {
-      room = omega arith;
+      inside = omega arith;
       fits = omega arith;
       put = (
         replaced-sets m end (newline ∷ []) (omega arith)

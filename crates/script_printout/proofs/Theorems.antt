@@ -12,9 +12,9 @@ use Rattle.octets.specs.Part.{part, replaced}
 use Rattle.machine.specs.Command.{Box}
 use Rattle.script_answers.specs.Answer.{mostPrinted}
 use Rattle.script_printout.specs.declared.Reader.{Reader}
-use Rattle.script_printout.specs.Printout.{blankBox, formatted, printout}
+use Rattle.script_printout.specs.Printout.{blankBox, scriptBox, printout}
 use Rattle.script_printout.specs.Reader.{Printing, pieceRead, inputEnd, placed, Fed, fed, finished}
-use Rattle.script_printout.specs.Claims.{Call, written, allWritten, HaveRoom, inputOf, PiecesPrinted}
+use Rattle.script_printout.specs.Claims.{Call, outputOf, allWritten, HaveRoom, inputOf, PiecesPrinted}
 use Rattle.script_printout.proofs.ReaderLaw.{wholeRead, piece-append}
 use Rattle.script_printout.proofs.HeaderLaw.{header-reads}
 
@@ -24,7 +24,7 @@ taken : Printing → List ℕ → Fed
 taken p out = record { taken = true; placed = placed out 0 p }
 
 -- what stands at the start of the buffer is what was printed
-written-printed : (p : Printing) (out : List ℕ) → written (taken p out) ≡ p .printed
+written-printed : (p : Printing) (out : List ℕ) → outputOf (taken p out) ≡ p .printed
 unfolding taken placed part replaced
 written-printed p out =
     let behind = drop (0 + length (p .printed)) out in
@@ -44,11 +44,11 @@ finished-taken r s out h = rw (le-leb mostPrinted (length out) h, finished)
 calls-whole : (calls : List Call) (last : List ℕ) (r : Reader) (s : Box) → HaveRoom calls → mostPrinted ≤ length last
     → allWritten r s calls last ≡ wholeRead r s (inputOf calls)
 unfolding allWritten flatten pieceRead taken placed
-calls-whole [] last r s h e = ap written (finished-taken r s last e) ∙ written-printed (inputEnd r s) last
+calls-whole [] last r s h e = ap outputOf (finished-taken r s last e) ∙ written-printed (inputEnd r s) last
 calls-whole (c ∷ calls) last r s h e =
     let p = pieceRead r s (c .piece) in
     let q = pieceRead (p .reader) (p .box) (inputOf calls) in
-    ap (λ (f : Fed). written f ++ allWritten (f .placed .reader) (f .placed .box) calls last) (fed-taken r s (c .piece) (c .buffer) (h .0))
+    ap (λ (f : Fed). outputOf f ++ allWritten (f .placed .reader) (f .placed .box) calls last) (fed-taken r s (c .piece) (c .buffer) (h .0))
     ∙ ap (λ (x : List ℕ). x ++ allWritten (p .reader) (p .box) calls last) (written-printed p (c .buffer))
     ∙ ap (λ (x : List ℕ). p .printed ++ x) (calls-whole calls last (p .reader) (p .box) (h .1) e)
     ∙ sym (append-assoc (p .printed) (q .printed) (inputEnd (q .reader) (q .box) .printed))
@@ -57,4 +57,4 @@ calls-whole (c ∷ calls) last r s h e =
 pub pieces-printed : PiecesPrinted
 unfolding printout
 pieces-printed calls last h e few =
-    calls-whole calls last _ _ h e ∙ header-reads (inputOf calls) 0 (formatted blankBox) (omega arith) (omega (arith, few))
+    calls-whole calls last _ _ h e ∙ header-reads (inputOf calls) 0 (scriptBox blankBox) (omega arith) (omega (arith, few))

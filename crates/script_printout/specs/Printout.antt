@@ -11,7 +11,7 @@ use Rattle.machine.specs.Command.{Box, boxOf}
 use Rattle.machine.specs.Format.{format}
 use Rattle.decimal.specs.Decimal.{decimal}
 use Rattle.script_lines.specs.declared.Judged.the-variants.{Right, Malformed}
-use Rattle.script_lines.specs.Form.{newline, lines, parsed}
+use Rattle.script_lines.specs.Syntax.{newline, lines, parsed}
 use Rattle.script_answers.specs.Answer.{ranLine, lineShown}
 
 -- ---- fixed texts, in ASCII
@@ -41,8 +41,8 @@ badLine n = bad ++ (decimal n ++ (newline ∷ []))
 abbrev pub blankBox : Box
 blankBox = boxOf (repeated (memorySize present) 0) (repeated (diskSize present 1) 0)
 
-unfoldable pub formatted : Box → Box
-formatted s = format present s 1 (repeated saltSize 0) .box
+unfoldable pub scriptBox : Box → Box
+scriptBox s = format present s 1 (repeated saltSize 0) .box
 
 -- lines of values, from number n on: each is run on the box that the one before left. "A line not of this form prints `bad line N` ..
 -- and ends the run"
@@ -60,4 +60,4 @@ linesPrinted s [] = badLine 1
 linesPrinted s (line ∷ rest) = elim (equal line header) [ true ↦ heading ++ bodyPrinted s 2 rest | false ↦ badLine 1 ]
 
 unfoldable pub printout : List ℕ → List ℕ
-printout input = linesPrinted (formatted blankBox) (lines input)
+printout input = linesPrinted (scriptBox blankBox) (lines input)

@@ -11,7 +11,7 @@ use Rattle.machine.specs.Command.{Box}
 use Rattle.script_lines.specs.declared.Line.{Line}
 use Rattle.script_lines.specs.declared.Next.the-variants.{Going, Wrong}
 use Rattle.script_lines.specs.declared.Judged.the-variants.{Right, Malformed}
-use Rattle.script_lines.specs.Form.{newline}
+use Rattle.script_lines.specs.Syntax.{newline}
 use Rattle.script_lines.specs.Reading.{blank, isBlank, afterByte, judged}
 use Rattle.script_answers.specs.Answer.{mostPrinted, ranLine, lineShown}
 use Rattle.script_printout.specs.declared.Stage.{Stage}
@@ -98,12 +98,12 @@ byteRead r s b =
     ]
 
 -- one after the other
-abbrev pub after : List ℕ → Printing → Printing
-after before p = printing (p .reader) (p .box) (before ++ p .printed)
+abbrev pub prefixed : List ℕ → Printing → Printing
+prefixed before p = printing (p .reader) (p .box) (before ++ p .printed)
 
 unfoldable pub pieceRead : Reader → Box → List ℕ → Printing
 pieceRead r s [] = printing r s []
-pieceRead r s (b ∷ piece) = after (byteRead r s b .printed) (pieceRead (byteRead r s b .reader) (byteRead r s b .box) piece)
+pieceRead r s (b ∷ piece) = prefixed (byteRead r s b .printed) (pieceRead (byteRead r s b .reader) (byteRead r s b .box) piece)
 
 -- the end of the input ends the last line, if a byte of it is read
 unfoldable pub bodyEnd : Reader → Line → Box → Printing
@@ -129,7 +129,7 @@ placed out at p = record { reader = p .reader; box = p .box; out = replaced out 
 
 -- where a step leaves the box alone, its placing is the same on every box
 abbrev pub OnEveryBox : (Box → Printing) → List ℕ → ℕ → Progress → List ℕ → Type 0
-OnEveryBox step out at p after = (s : Box) → placedOf p s after ≡ placed out at (step s)
+OnEveryBox step out at p prefixed = (s : Box) → placedOf p s prefixed ≡ placed out at (step s)
 
 -- a call of the library: nothing is read where the buffer has not room for a line at each byte
 pub record Fed : Type 0 where

@@ -5,17 +5,17 @@ use mathlib.Core.List.{List}
 use borrow.Author.Tests.{le-leb, lt-leb, eq-eqb, ne-eqb}
 use lib.ListN.{length}
 use Rattle.blake3.specs.Blake3.{digest, digestSize}
-use Rattle.sockjade.specs.Digest.{longestInput, badLength, outcome, fits, digestCall}
+use Rattle.sockjade.specs.Digest.{longestInput, badLength, digestOutcome, fits, digestCall}
 
-pub refused-input : (input out : List ℕ) → longestInput < length input → outcome badLength out ≡ digestCall input out
+pub refused-input : (input out : List ℕ) → longestInput < length input → digestOutcome badLength out ≡ digestCall input out
 unfolding digestCall fits
 refused-input input out h = rw (digestCall, fits, lt-leb (length input) longestInput h)
 
-pub refused-room : (input out : List ℕ) → length input ≤ longestInput → (length out ≡ digestSize → ⊥) → outcome badLength out ≡ digestCall input out
+pub refused-out : (input out : List ℕ) → length input ≤ longestInput → (length out ≡ digestSize → ⊥) → digestOutcome badLength out ≡ digestCall input out
 unfolding digestCall fits
-refused-room input out h k = rw (digestCall, fits, le-leb (length input) longestInput h, ne-eqb (length out) digestSize k)
+refused-out input out h k = rw (digestCall, fits, le-leb (length input) longestInput h, ne-eqb (length out) digestSize k)
 
 pub digested : (input out filled : List ℕ) → length input ≤ longestInput → length out ≡ digestSize → filled ≡ digest input
-    → outcome 0 filled ≡ digestCall input out
+    → digestOutcome 0 filled ≡ digestCall input out
 unfolding digestCall fits
-digested input out filled h k e = rw (digestCall, fits, le-leb (length input) longestInput h, eq-eqb (length out) digestSize k) (ap (outcome 0) e)
+digested input out filled h k e = rw (digestCall, fits, le-leb (length input) longestInput h, eq-eqb (length out) digestSize k) (ap (digestOutcome 0) e)

@@ -15,18 +15,18 @@ longestInput = 65536
 abbrev pub badLength : ℕ
 badLength = 6
 
--- what a call leaves: the number answered, and what the room for the digest then holds
-pub record Outcome : Type 0 where
+-- what a call leaves: the number answered, and what the buffer for the digest then holds
+pub record DigestOutcome : Type 0 where
   pub number : ℕ
   pub out : List ℕ
 
-abbrev pub outcome : ℕ → List ℕ → Outcome
-outcome number out = record { number = number; out = out }
+abbrev pub digestOutcome : ℕ → List ℕ → DigestOutcome
+digestOutcome number out = record { number = number; out = out }
 
--- question 6: an input that is not too long, and room for just the digest
+-- question 6: an input that is not too long, and a buffer for just the digest
 unfoldable pub fits : List ℕ → List ℕ → Bool
 fits input out = leb (length input) longestInput && eqb (length out) digestSize
 
--- yes: 0, and the digest. No: its number, and the room is as it was
-unfoldable pub digestCall : List ℕ → List ℕ → Outcome
-digestCall input out = elim (fits input out) [ true ↦ outcome 0 (digest input) | false ↦ outcome badLength out ]
+-- yes: 0, and the digest. No: its number, and the buffer is as it was
+unfoldable pub digestCall : List ℕ → List ℕ → DigestOutcome
+digestCall input out = elim (fits input out) [ true ↦ digestOutcome 0 (digest input) | false ↦ digestOutcome badLength out ]

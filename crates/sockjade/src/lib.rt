@@ -4,8 +4,8 @@ ghost use mathlib.Core.Path.{_≡_};
 ghost use Rattle.lockpage.specs.Geometry.{present};
 ghost use Rattle.machine.specs.Command.{boxOf, commandOf, outcomeOf};
 ghost use Rattle.machine.specs.Step.{step};
-ghost use Rattle.machine.specs.Format.{formattingOf, format};
-ghost use Rattle.sockjade.specs.Digest.{outcome, digestCall};
+ghost use Rattle.machine.specs.Format.{formatOutcomeOf, format};
+ghost use Rattle.sockjade.specs.Digest.{digestOutcome, digestCall};
 
 const LONGEST_INPUT: usize = 65536;
 
@@ -13,7 +13,7 @@ const LONGEST_INPUT: usize = 65536;
 // bytes or out is not 32.
 #[no_mangle]
 pub extern "C" fn sockjade_digest(input: &[u8], out: &mut [u8]) -> u32
-    ensures { λ r. ⌜ outcome r (now (out .exit)) ≡ digestCall (now (input .entry)) (now (out .entry)) ⌝ }
+    ensures { λ r. ⌜ digestOutcome r (now (out .exit)) ≡ digestCall (now (input .entry)) (now (out .entry)) ⌝ }
 {
     if input.len() > LONGEST_INPUT {
         return machine::LENGTH_WRONG;
@@ -61,7 +61,7 @@ pub extern "C" fn sockjade_format(
     groups: u32,
     salt: &[u8],
 ) -> u32
-    ensures { λ r. ⌜ formattingOf r (now (memory .exit)) (now (disk .exit)) ≡ format present (boxOf (now (memory .entry)) (now (disk .entry))) groups (now (salt .entry)) ⌝ }
+    ensures { λ r. ⌜ formatOutcomeOf r (now (memory .exit)) (now (disk .exit)) ≡ format present (boxOf (now (memory .entry)) (now (disk .entry))) groups (now (salt .entry)) ⌝ }
 {
     controller::format(memory, disk, groups, salt)
 }

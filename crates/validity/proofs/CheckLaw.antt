@@ -82,7 +82,7 @@ module _ {γ : Geometry} (σ : Proper γ) where
           unused = p .unused;
           reserved = p .reserved;
           counted = λ n. absurd (n h);
-          unspent = λ n. absurd (n h);
+          unexhausted = λ n. absurd (n h);
           blank = λ n. equal-true (heldPage γ m) (repeated (pageSize γ) 0) (sym e ∙ t);
         })
         (λ v. e ∙ equal-yes (heldPage γ m) (repeated (pageSize γ) 0) (v .blank h))
@@ -102,7 +102,7 @@ module _ {γ : Geometry} (σ : Proper γ) where
           unused = p .unused;
           reserved = p .reserved;
           counted = λ x. omega arith;
-          unspent = λ x. omega (arith, leb-true n countLimit t);
+          unexhausted = λ x. omega (arith, leb-true n countLimit t);
           blank = λ x. absurd (some (eh ∙ x));
         })
-        (λ v. le-leb n countLimit (omega (arith, v .unspent (λ e. some (eh ∙ e)))))
+        (λ v. le-leb n countLimit (omega (arith, v .unexhausted (λ e. some (eh ∙ e)))))

@@ -1,13 +1,13 @@
 -- The claims of specs/Claims.antt, proved. Assumes nothing.
 use Rattle.lockpage.specs.Geometry.{Geometry, Proper}
-use Rattle.validity.specs.Claims.{StaysValid, FormattedIsValid, UnusedCounts}
+use Rattle.validity.specs.Claims.{ChangesKeepValid, FormattedIsValid, UnusedCounts}
 use Rattle.validity.proofs.ValidLaw.{facts, valid-salt, valid-time, valid-count, valid-no-counts, valid-holding, valid-none, valid-formatted, unused-count}
 
 -- γ is any proper geometry
 module _ {γ : Geometry} (σ : Proper γ) where
-  pub stays-valid : StaysValid γ
-  unfolding StaysValid
-  stays-valid m e =
+  pub changes-keep-valid : ChangesKeepValid γ
+  unfolding ChangesKeepValid
+  changes-keep-valid m e =
       let v = facts σ m e in
       record {
         salt-set = valid-salt σ m v;

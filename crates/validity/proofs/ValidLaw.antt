@@ -17,7 +17,7 @@ use Rattle.lockpage.specs.Geometry.{Geometry, Proper}
 use Rattle.lockpage.specs.Size.{pageSize}
 use Rattle.lockpage.specs.Update.{latestTime}
 use Rattle.memory.specs.Layout.{memorySize, saltSize, countSize, countStart, timeStart, reservedStart, reservedSize}
-use Rattle.memory.specs.Memory.{salt, count, lastTime, groups, held, none, heldPage, withSalt, withCount, withNoCounts, withLastTime, holding, holdingNone, formatted}
+use Rattle.memory.specs.Memory.{salt, count, lastTime, groups, held, none, heldPage, withSalt, withCount, withNoCounts, withLastTime, holding, holdingNone, formattedMemory}
 use Rattle.validity.specs.Valid.{countLimit, every, valid}
 use Rattle.memory.specs.Claims.{Reads, changed}
 use Rattle.memory.proofs.FormatLaw.{formatted-reads, formatted-zeros}
@@ -55,7 +55,7 @@ module _ (γ : Geometry) where
     pub unused : UnusedFrom m (groups γ m)
     pub reserved : ReservedZero m
     pub counted : (held γ m ≡ none → ⊥) → 1 ≤ count m (held γ m)
-    pub unspent : (held γ m ≡ none → ⊥) → count m (held γ m) ≤ countLimit
+    pub unexhausted : (held γ m ≡ none → ⊥) → count m (held γ m) ≤ countLimit
     pub blank : held γ m ≡ none → heldPage γ m ≡ repeated (pageSize γ) 0
 
 -- γ is any proper geometry
@@ -85,7 +85,7 @@ module _ {γ : Geometry} (σ : Proper γ) where
           unused = equal-true _ _ (g .0);
           reserved = equal-true _ _ (h .0);
           counted = λ n. leb-true 1 (count m (held γ m)) (or-else _ _ (i .0) (ne-eqb (held γ m) none n));
-          unspent = λ n. leb-true (count m (held γ m)) countLimit (or-else _ _ (j .0) (ne-eqb (held γ m) none n));
+          unexhausted = λ n. leb-true (count m (held γ m)) countLimit (or-else _ _ (j .0) (ne-eqb (held γ m) none n));
           blank = λ n. equal-true _ _ (or-else _ _ (k .0) (ap not (eq-eqb (held γ m) none n)));
         }
 
@@ -100,7 +100,7 @@ module _ {γ : Geometry} (σ : Proper γ) where
         (and-intro (equal-yes _ _ (v .unused))
         (and-intro (equal-yes _ _ (v .reserved))
         (and-intro (or-yes _ _ (λ n. le-leb 1 (count m (held γ m)) (v .counted (eqb-false (held γ m) none n))))
-        (and-intro (or-yes _ _ (λ n. le-leb (count m (held γ m)) countLimit (v .unspent (eqb-false (held γ m) none n))))
+        (and-intro (or-yes _ _ (λ n. le-leb (count m (held γ m)) countLimit (v .unexhausted (eqb-false (held γ m) none n))))
         (and-intro (or-yes _ _ (λ n. equal-yes _ _ (v .blank (eqb-true (held γ m) none (eq-true-of-not-eq-false' n))))) refl)))))))))
 
     -- a test that has the facts' truth is the test
@@ -132,7 +132,7 @@ module _ {γ : Geometry} (σ : Proper γ) where
         unused = subst (UnusedFrom γ m) (sym (r .groups)) unused;
         reserved = reserved;
         counted = λ n. subst (λ (x : ℕ). 1 ≤ x) (sym (count-is n)) (counted (other n) .0);
-        unspent = λ n. subst (λ (x : ℕ). x ≤ countLimit) (sym (count-is n)) (counted (other n) .1);
+        unexhausted = λ n. subst (λ (x : ℕ). x ≤ countLimit) (sym (count-is n)) (counted (other n) .1);
         blank = λ n. r .page ∙ blank (sym (r .held) ∙ n);
       })
     where
@@ -145,7 +145,7 @@ module _ {γ : Geometry} (σ : Proper γ) where
   module _ (m : List ℕ) (v : Valid γ m) where
     -- a held group's count
     held-count : (held γ m ≡ none → ⊥) → (1 ≤ count m (held γ m)) × (count m (held γ m) ≤ countLimit)
-    held-count n = (v .counted n, v .unspent n)
+    held-count n = (v .counted n, v .unexhausted n)
 
     -- after a change in the front, and in the back
     front-reserved : (n : List ℕ) → InFront γ m n → ReservedZero γ n
@@ -218,8 +218,8 @@ module _ {γ : Geometry} (σ : Proper γ) where
         ∙ repeated-part (timeStart γ - from) 0 (countSize * (g - groups γ m)) countSize (omega arith))
 
   -- the memory of formatting
-  pub valid-formatted : (g : ℕ) (s : List ℕ) → 1 ≤ g → g ≤ γ .mostGroups → length s ≡ saltSize → valid γ (formatted γ g s) ≡ true
+  pub valid-formatted : (g : ℕ) (s : List ℕ) → 1 ≤ g → g ≤ γ .mostGroups → length s ≡ saltSize → valid γ (formattedMemory γ g s) ≡ true
   valid-formatted g s least most size =
       let zeros = formatted-zeros σ g s size most in
-      from-reads (formatted γ g s) s (λ k. 0) 0 g none (repeated (pageSize γ) 0) (formatted-reads σ g s (omega arith) size)
+      from-reads (formattedMemory γ g s) s (λ k. 0) 0 g none (repeated (pageSize γ) 0) (formatted-reads σ g s (omega arith) size)
       least most (λ n. absurd (n refl)) (omega arith) (zeros .0) (zeros .1) (λ n. absurd (n refl)) (λ e. refl)

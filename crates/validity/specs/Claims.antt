@@ -8,7 +8,7 @@ use Rattle.lockpage.specs.Geometry.{Geometry}
 use Rattle.lockpage.specs.Size.{pageSize}
 use Rattle.lockpage.specs.Update.{latestTime}
 use Rattle.memory.specs.Layout.{saltSize, countSize}
-use Rattle.memory.specs.Memory.{count, groups, held, none, withSalt, withCount, withNoCounts, withLastTime, holding, holdingNone, formatted}
+use Rattle.memory.specs.Memory.{count, groups, held, none, withSalt, withCount, withNoCounts, withLastTime, holding, holdingNone, formattedMemory}
 use Rattle.validity.specs.Valid.{countLimit, valid}
 
 -- γ is the box's geometry
@@ -25,12 +25,12 @@ module _ (γ : Geometry) where
         → valid γ (holding γ m g p) ≡ true
     pub page-dropped : valid γ (holdingNone γ m) ≡ true
 
-  unfoldable pub StaysValid : Type 0
-  StaysValid = (m : List ℕ) → valid γ m ≡ true → Keeps m
+  unfoldable pub ChangesKeepValid : Type 0
+  ChangesKeepValid = (m : List ℕ) → valid γ m ≡ true → Keeps m
 
   -- the memory of formatting is valid
   unfoldable pub FormattedIsValid : Type 0
-  FormattedIsValid = (g : ℕ) (s : List ℕ) → 1 ≤ g → g ≤ γ .mostGroups → length s ≡ saltSize → valid γ (formatted γ g s) ≡ true
+  FormattedIsValid = (g : ℕ) (s : List ℕ) → 1 ≤ g → g ≤ γ .mostGroups → length s ≡ saltSize → valid γ (formattedMemory γ g s) ≡ true
 
   -- "counts of groups from G on .. are 0"
   unfoldable pub UnusedCounts : Type 0

@@ -4,7 +4,7 @@ ghost use Rattle.lockpage.specs.Geometry.{present};
 ghost use Rattle.validity.specs.Valid.{valid as isValid};
 use memory::layout;
 
-// A count at this limit is spent.
+// A count at this limit is exhausted.
 pub const COUNT_LIMIT: u32 = 4294967294;
 
 // Whether the memory is valid.

@@ -115,7 +115,7 @@ fn counts(pair: &mut Pair, count: u32) -> Result<(), String> {
         let call = pair.good(kind, 100, 50, 3);
         pair.expect(&call, if count < HIGHEST_COUNT { 0 } else { 8 })?;
         pair.expect(&Call::new(3, 1, 50, 0), 0)?;
-        // Raised by the update to the highest, the count is raised once more, and then spent.
+        // Raised by the update to the highest, the count is raised once more, and then exhausted.
         pair.expect(&Call::new(8, 0, 51, 0), 0)?;
         let call = pair.good(kind, 101, 51, 3);
         pair.expect(&call, if count < HIGHEST_COUNT - 2 { 0 } else { 8 })?;

@@ -32,8 +32,8 @@ rest t c =
     let start = c .before .before .before .before .before .before in
     put-more _ _ _ _ _ (c .before .before .before .before .if1 .left) (start .pre .1) (c .before .before .put .ensures)
 
-put-room : (t : ℕ) → put-lts.Need-slice-write-out (put-below t, put.Post) (put-at t) put.Post
-put-room t c = omega (arith, decimal-some (c .before .before .args .n))
+put-within : (t : ℕ) → put-lts.Need-slice-write-out (put-below t, put.Post) (put-at t) put.Post
+put-within t c = omega (arith, decimal-some (c .before .before .args .n))
 
 pub +put-spec : {M : Type 1} → statement M
 +put-spec = close μ-put λ t. put-lts.spec (put-below t, put.Post)
@@ -41,14 +41,14 @@ pub +put-spec : {M : Type 1} → statement M
     put.Post
     (λ c. search needs)
     (λ c. search needs)
-    (put-room t)
+    (put-within t)
     (λ c. search needs)
     (λ c. search needs)
     (λ c. put-one _ _ _ (c .if1 .taken) (c .before .before .pre .1))
     (λ c κs. (omega arith, omega (arith, decimal-longer (c .before .before .before .args .n) (c .before .if1 .left))))
     (λ c. search needs)
     (λ c. search needs)
-    (λ c. rest t c .room)
+    (λ c. rest t c .inside)
     (λ c. record { fits = omega (arith, rest t c .fits) })
     (λ c. search needs)
     (λ c. rest t c .put)

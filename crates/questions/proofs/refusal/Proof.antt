@@ -33,8 +33,8 @@ invalid c =
     let start = c .before .before .before .before .before .before .before in
     invalid-refused σ (start .args .k) (box start) (given start) _ (c .before .valid .ensures) (c .if1 .taken)
 
-form : tie.Need-returns-2
-form c =
+arguments : tie.Need-returns-2
+arguments c =
     let first = c .before .before in
     let start = first .before .before .before .before .before .before .before in
     form-refused σ (start .args .k) (box start) (given start) _ (first .before .valid .ensures) (first .if1 .left) _
@@ -94,6 +94,6 @@ salt c = salt-left σ _ _ _ (passed (c .before .before .before)) _ (c .before .e
 pub refusal-spec : {M : Type 1} → statement M
 refusal-spec =
     tie.close
-    (tie.spec (λ c κs. search needs) invalid (λ c κs. size c) form (λ c. search needs) (λ c. search needs) (λ c. search needs)
+    (tie.spec (λ c κs. search needs) invalid (λ c κs. size c) arguments (λ c. search needs) (λ c. search needs) (λ c. search needs)
     (λ c. search needs) change-requires (λ c. search needs) (λ c. search needs) (λ c. search needs)
     (λ c κs. size (c .before .before .before .before)) (λ c. search needs) (λ c. search needs) read entry page change sync restart salt identify unknown)

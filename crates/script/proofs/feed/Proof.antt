@@ -15,8 +15,8 @@ Inv-loop memory₀ disk₀ piece out₀ p₀ i₀ memory disk out p i = Feeding 
 abbrev μ-loop : tie.MeasureT-loop
 μ-loop memory₀ disk₀ piece out₀ p₀ i₀ memory disk out p i = length piece - i
 
-no-room : tie.Need-returns Inv-loop μ-loop
-no-room c =
+not-taken : tie.Need-returns Inv-loop μ-loop
+not-taken c =
     let x = c .before .before .before .args in
     feeding-none (x .reader) (boxOf (x .memory .now) (x .disk .now)) (x .piece .now) (x .out .now) _ refl refl (omega (arith, c .if1 .taken))
 
@@ -29,7 +29,7 @@ read-byte-requires : tie.Need-read-byte-requires Inv-loop μ-loop
 read-byte-requires c κs =
     let test = c .before .before .before .before in
     let inv = test .before .loop .inv in
-    omega (arith, feeding-size _ _ _ _ _ _ _ _ inv, inv .room, test .loop-test .taken)
+    omega (arith, feeding-size _ _ _ _ _ _ _ _ inv, inv .inside, test .loop-test .taken)
 
 loop-again : tie.Need-loop-again Inv-loop μ-loop
 loop-again c =
@@ -45,5 +45,5 @@ returns c =
 pub feed-spec : {M : Type 1} → statement M
 feed-spec =
     tie.close
-    (tie.spec Inv-loop μ-loop no-room loop-holds (λ c. search needs) read-byte-requires (λ c. search needs) (λ c. search needs)
+    (tie.spec Inv-loop μ-loop not-taken loop-holds (λ c. search needs) read-byte-requires (λ c. search needs) (λ c. search needs)
     loop-again (λ c. feeding-size _ _ _ _ _ _ _ _ (c .before .loop .inv)) returns)

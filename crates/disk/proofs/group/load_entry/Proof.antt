@@ -12,7 +12,7 @@ use Rattle.disk.proofs.LentLaw.{block-cut, entry-cut}
 use Rattle.disk.proofs.group.load_entry.Statement.{statement}
 use Rattle.disk.proofs.group.load_entry.Tie as tie
 
--- the page's end in the stretch
+-- the page's end in the extent
 ends : (c : tie.After-block-start) → c .block-start .result + blockSize present ≤ length (c .before .before .args .group .now)
 ends c = omega (arith, c .block-start .ensures, c .before .before .pre .0, blockStart-place σ (pagePlace present) (omega arith))
 

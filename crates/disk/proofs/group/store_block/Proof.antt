@@ -11,7 +11,7 @@ use Rattle.disk.proofs.LentLaw.{block-filled}
 use Rattle.disk.proofs.group.store_block.Statement.{statement}
 use Rattle.disk.proofs.group.store_block.Tie as tie
 
--- the block's end in the stretch
+-- the block's end in the extent
 ends : (c : tie.After-block-start) → c .block-start .result + blockSize present ≤ length (c .before .before .before .args .group .now)
 ends c =
     let start = c .before .before .before in

@@ -1,4 +1,4 @@
--- `disk::whole::load_entry` meets its contract, by the group's stretch. Assumes nothing.
+-- `disk::whole::load_entry` meets its contract, by the group's extent. Assumes nothing.
 use borrow.Author.Needs.{needs}
 use mathlib.Core.Path.{refl}
 use native.Mathlib.Omega.{arith}
@@ -13,13 +13,13 @@ use Rattle.disk.proofs.whole.load_entry.Tie as tie
 load-entry-requires : tie.Need-load-entry-requires
 load-entry-requires c κs =
     let start = c .before .before in
-    (cut-length σ _ _ _ _ (start .pre .0) refl (c .stretch .ensures), search needs)
+    (cut-length σ _ _ _ _ (start .pre .0) refl (c .extent .ensures), search needs)
 
 returns : tie.Need-returns
 returns c =
     let cut = c .before in
     entry-cut _ _ _ _
-    (block-read σ _ _ _ _ (cut .before .before .pre .0) refl (cut .stretch .ensures) _ (pagePlace present) _ (omega arith) (pageBlock-place σ _) refl)
+    (block-read σ _ _ _ _ (cut .before .before .pre .0) refl (cut .extent .ensures) _ (pagePlace present) _ (omega arith) (pageBlock-place σ _) refl)
     (c .load-entry .ensures)
 
 pub load-entry-spec : {M : Type 1} → statement M

@@ -1,4 +1,4 @@
--- `disk::whole::read_block` meets its contract, by its group's stretch and its place there. Assumes nothing.
+-- `disk::whole::read_block` meets its contract, by its group's extent and its place there. Assumes nothing.
 use borrow.Author.Needs.{needs}
 use Rattle.lockpage.proofs.GeometryLaw.{present-proper as σ}
 use Rattle.addressing.proofs.MapLaw.{physical-at, placeOf-in}
@@ -12,7 +12,7 @@ read-block-requires c κs =
     let cut = placed .before in
     let start = cut .before .before .before .before in (
       placeOf-in σ _ _ (placed .place-of .ensures),
-      (cut-length σ _ _ _ _ (start .pre .0) (cut .before .group-of .ensures) (cut .stretch .ensures), search needs),
+      (cut-length σ _ _ _ _ (start .pre .0) (cut .before .group-of .ensures) (cut .extent .ensures), search needs),
     )
 
 returns : tie.Need-returns
@@ -22,7 +22,7 @@ returns c =
     let cut = placed .before in
     let start = cut .before .before .before .before in
     let place = placed .place-of .ensures in
-    block-read σ _ _ _ _ (start .pre .0) (cut .before .group-of .ensures) (cut .stretch .ensures) _ _ _ (placeOf-in σ _ _ place)
+    block-read σ _ _ _ _ (start .pre .0) (cut .before .group-of .ensures) (cut .extent .ensures) _ _ _ (placeOf-in σ _ _ place)
     (physical-at σ _ _ place) (called .read-block .ensures)
 
 pub read-block-spec : {M : Type 1} → statement M

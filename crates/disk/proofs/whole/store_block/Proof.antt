@@ -1,4 +1,4 @@
--- `disk::whole::store_block` meets its contract: its group's stretch is lent and comes back with the block stored. Assumes nothing.
+-- `disk::whole::store_block` meets its contract: its group's extent is lent and comes back with the block stored. Assumes nothing.
 use borrow.Author.Needs.{needs}
 use mathlib.Core.Path.{_≡_, ap, _∙_}
 use native.Mathlib.Omega.{arith}
@@ -8,7 +8,7 @@ use Rattle.lockpage.specs.Geometry.{present}
 use Rattle.lockpage.proofs.GeometryLaw.{present-proper as σ}
 use Rattle.addressing.specs.Map.{groupSize, groupOf, groupStart}
 use Rattle.addressing.proofs.MapLaw.{physical-at, placeOf-in}
-use Rattle.disk.proofs.LentLaw.{stretch-end, block-stored}
+use Rattle.disk.proofs.LentLaw.{extent-end, block-stored}
 use Rattle.disk.proofs.whole.store_block.Statement.{statement}
 use Rattle.disk.proofs.whole.store_block.Tie as tie
 
@@ -17,7 +17,7 @@ starts : (c : tie.After-group-start) → c .group-start .result ≡ groupStart p
 starts c = c .group-start .ensures ∙ ap (groupStart present) (c .before .group-of .ensures)
 
 ends : (c : tie.After-group-start) → c .group-start .result + groupSize present ≤ length (c .before .before .before .before .args .disk .now)
-ends c = stretch-end σ _ _ _ (c .before .before .before .before .pre .0) (starts c)
+ends c = extent-end σ _ _ _ (c .before .before .before .before .pre .0) (starts c)
 
 returns : tie.Need-returns
 returns c =

@@ -9,7 +9,7 @@ use Rattle.lockpage.specs.declared.Entry.{Entry}
 use Rattle.lockpage.specs.Page.{entryAt}
 use Rattle.lockpage.specs.Update.{updated, withinLimit}
 use Rattle.lockpage.proofs.GeometryLaw.{present-proper as σ}
-use Rattle.lockpage.proofs.PageLaw.{entry-room}
+use Rattle.lockpage.proofs.PageLaw.{entry-within}
 use Rattle.addressing.proofs.MapLaw.{placeOf-below}
 use Rattle.memory.specs.Memory.{count}
 use Rattle.machine.specs.Command.{broughtPage}
@@ -31,7 +31,7 @@ load-entry-requires c κs =
     let placed = c .before in
     let start = placed .before .before .before .before in
     let proof = start .args .proof .now in
-    entry-room σ (broughtPage present proof) _ (brought-length σ proof (start .pre .1 .1 .1 .0)) (place-small placed)
+    entry-within σ (broughtPage present proof) _ (brought-length σ proof (start .pre .1 .1 .1 .0)) (place-small placed)
 
 count-requires : tie.Need-count-requires
 count-requires c κs =

@@ -1,4 +1,4 @@
--- `effects::held::put_held` meets its contract: the held group's stretch is lent and comes back with the held page. Assumes nothing.
+-- `effects::held::put_held` meets its contract: the held group's extent is lent and comes back with the held page. Assumes nothing.
 use borrow.Author.Needs.{needs}
 use native.Mathlib.Omega.{arith}
 use Prim.Native.Nat.{_+_, _≤_}

@@ -12,7 +12,7 @@ use Rattle.effects.proofs.HeldLaw.{page-put}
 use Rattle.effects.proofs.held.put_page.Statement.{statement}
 use Rattle.effects.proofs.held.put_page.Tie as tie
 
--- the page's end in the stretch
+-- the page's end in the extent
 ends : (c : tie.After-block-start) → c .block-start .result + blockSize present ≤ length (c .before .before .before .args .group .now)
 ends c =
     let start = c .before .before .before in

@@ -23,11 +23,11 @@ loop-again c =
     let stored = c .before .before in
     let test = stored .before .before in
     let loop = test .before in
-    let room = loop .before .before .pre in (
+    let inside = loop .before .before .pre in (
       search needs,
       (
         search needs,
-        repeatedEntry-step σ _ _ _ _ _ room (omega (arith, test .loop-test .taken)) (loop .loop .inv .1 .1) (stored .store-entry .ensures),
+        repeatedEntry-step σ _ _ _ _ _ inside (omega (arith, test .loop-test .taken)) (loop .loop .inv .1 .1) (stored .store-entry .ensures),
       ),
     )
 

@@ -2,7 +2,7 @@
 use borrow.Author.Needs.{needs}
 use Rattle.lockpage.specs.Geometry.{present}
 use Rattle.lockpage.proofs.GeometryLaw.{present-proper as σ}
-use Rattle.questions.proofs.ChangeLaw.{matches-answer, unspent-answer, allowed-answer, within-answer, Answers, no-7, no-8, no-9, no-10, none-no}
+use Rattle.questions.proofs.ChangeLaw.{matches-answer, unexhausted-answer, allowed-answer, within-answer, Answers, no-7, no-8, no-9, no-10, none-no}
 use Rattle.questions.proofs.change.refusal.Statement.{statement}
 use Rattle.questions.proofs.change.refusal.Tie as tie
 
@@ -10,14 +10,14 @@ use Rattle.questions.proofs.change.refusal.Tie as tie
 answers : (c : tie.After-within-limit)
     → let x = c .before .before .before .before .before .before .before .before .before .args in
     Answers present (x .u) (x .memory .now) (x .block) (x .time) (x .proof .now) (c .before .before .before .before .matches .result)
-    (c .before .before .before .is-unspent .result) (c .before .allowed .result) (c .within-limit .result)
+    (c .before .before .before .is-unexhausted .result) (c .before .allowed .result) (c .within-limit .result)
 answers c =
     let x = c .before .before .before .before .before .before .before .before .before .args in
     let entry = c .before .before .before .before .before in
     let group = entry .before .group-of .ensures in
     record {
       tag-is = matches-answer σ (x .memory .now) (x .block) (x .proof .now) _ _ group (c .before .before .before .before .matches .ensures);
-      count-is = unspent-answer σ (x .memory .now) (x .block) _ _ group (c .before .before .before .is-unspent .ensures);
+      count-is = unexhausted-answer σ (x .memory .now) (x .block) _ _ group (c .before .before .before .is-unexhausted .ensures);
       state-is = allowed-answer (x .u) (x .time) _ _ _ _ (entry .brought-entry .ensures) (c .before .before .state .ensures) (c .before .allowed .ensures);
       limit-is = within-answer (x .u) (x .time) _ _ _ (entry .brought-entry .ensures) (c .within-limit .ensures);
     }
@@ -25,8 +25,8 @@ answers c =
 tag : tie.Need-returns
 tag c = no-7 σ _ _ _ _ _ _ _ _ _ (answers (c .before)) (c .if1 .taken)
 
-spent : tie.Need-returns-2
-spent c = no-8 σ _ _ _ _ _ _ _ _ _ (answers (c .before .before)) (c .before .if1 .left) (c .if2 .taken)
+exhausted : tie.Need-returns-2
+exhausted c = no-8 σ _ _ _ _ _ _ _ _ _ (answers (c .before .before)) (c .before .if1 .left) (c .if2 .taken)
 
 state : tie.Need-returns-3
 state c = no-9 σ _ _ _ _ _ _ _ _ _ (answers (c .before .before .before)) (c .before .before .if1 .left) (c .before .if2 .left) (c .if3 .taken)
@@ -41,4 +41,4 @@ none c = none-no σ _ _ _ _ _ _ _ _ _ (answers (c .before .before .before .befor
 
 pub refusal-spec : {M : Type 1} → statement M
 refusal-spec = tie.close (tie.spec (λ c κs. search needs) (λ c κs. search needs) (λ c κs. search needs) (λ c κs. search needs) (λ c κs. search needs)
-    (λ c κs. search needs) (λ c κs. search needs) tag spent state limit none)
+    (λ c κs. search needs) (λ c κs. search needs) tag exhausted state limit none)

@@ -28,7 +28,7 @@ put-bad-line-spec =
     (λ c κs. (omega arith, omega (arith, bad-line-length (c .before .before .before .args .n))))
     (λ c. search needs)
     (λ c κs. omega (arith, bad-line-length (c .before .before .before .before .before .before .before .args .n)))
-    (λ c. rest c .room)
+    (λ c. rest c .inside)
     (λ c. record { fits = omega (arith, rest c .fits) })
     (λ c. simp length-set (c .before .out2 .given ∙ c .before .before .before .before .before .out .given))
     (λ c. rest c .put))

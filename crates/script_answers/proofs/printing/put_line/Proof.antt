@@ -2,7 +2,7 @@
 use borrow.Author.Needs.{needs}
 use native.Mathlib.Omega.{arith}
 use lib.ListN.{length-set}
-use Rattle.script_answers.proofs.PrintLaw.{Five, Line, five-put, left-room, line-put}
+use Rattle.script_answers.proofs.PrintLaw.{Five, Line, five-put, left-within, line-put}
 use Rattle.script_answers.proofs.printing.put_line.Statement.{statement}
 use Rattle.script_answers.proofs.printing.put_line.Tie as tie
 
@@ -27,7 +27,7 @@ put-signed-requires : tie.Need-put-signed-requires
 put-signed-requires c κs =
     let put = c .before .before .before .before in
     let x = entry put .args in
-    left-room (x .out .now) (x .at) (x .v) (x .s) (entry put .pre) _ _ (five put) (search needs)
+    left-within (x .out .now) (x .at) (x .v) (x .s) (entry put .pre) _ _ (five put) (search needs)
 
 abbrev numbers : tie.After-slice-known7 → tie.After-put-spaced5
 numbers c = c .before .before .before .before .before .before .before
@@ -53,4 +53,4 @@ put-line-spec =
     tie.close
     (tie.spec (λ c. search needs) (λ c κs. search needs) (λ c. search needs) (λ c κs. search needs) (λ c. search needs) (λ c κs. search needs)
     (λ c. search needs) (λ c κs. search needs) (λ c. search needs) (λ c κs. search needs)
-    put-signed-requires (λ c. line c .room) add-result (λ c. simp length-set (line c .size)) returns)
+    put-signed-requires (λ c. line c .inside) add-result (λ c. simp length-set (line c .size)) returns)

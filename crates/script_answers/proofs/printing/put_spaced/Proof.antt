@@ -23,4 +23,4 @@ returns c = (spaced c .put .0, (spaced c .put .1, omega (arith, spaced c .within
 
 pub put-spaced-spec : {M : Type 1} → statement M
 put-spaced-spec =
-    tie.close (tie.spec put-requires (λ c. spaced c .room) (λ c. record { fits = omega (arith, spaced c .within) }) (λ c. search needs) returns)
+    tie.close (tie.spec put-requires (λ c. spaced c .inside) (λ c. record { fits = omega (arith, spaced c .within) }) (λ c. search needs) returns)

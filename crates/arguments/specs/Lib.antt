@@ -1,0 +1,2 @@
+-- Questions 2 to 6 as the code asks them.
+pub mod ArgumentQuestions

@@ -1,3 +1,0 @@
--- The laws that proofs cite.
-pub mod KindLaw
-pub mod FormLaw

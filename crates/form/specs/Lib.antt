@@ -1,2 +1,0 @@
--- Questions 2 to 6 as the code asks them.
-pub mod Parts
