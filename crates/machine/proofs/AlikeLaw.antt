@@ -1,5 +1,5 @@
 -- Demand 3: a watch for each of the three cases, and the runs that they show. Assumes nothing.
-use mathlib.Core.Path.{_≡_, refl, subst, _∙_}
+use mathlib.Core.Path.{_≡_, refl, sym, subst, _∙_}
 use mathlib.Core.Bool.{Bool, true, false, false≢true}
 use mathlib.Core.Logic.{inl, inr}
 use mathlib.Core.List.{List, [], _∷_, _++_}
@@ -18,7 +18,7 @@ use Rattle.memory.specs.Memory.{lastTime, held, none}
 use Rattle.machine.specs.Command.{Box, Command, kindOf}
 use Rattle.machine.specs.Step.{step, padded, Accepted}
 use Rattle.machine.specs.Run.{Event, Given, after, run, Throughout}
-use Rattle.machine.specs.Protection.{Unforged, NotUnfrozen, Shows, startContent, startEntry, Protected, FrozenUnder, CountingTo, NeverUnfrozen, ShowsStart, ReadIn}
+use Rattle.machine.specs.Protection.{Unforged, NotUnfrozen, CommandShows, Shows, startContent, startEntry, Protected, FrozenUnder, CountingTo, NeverUnfrozen, ShowsStart, ShownIn, SeenAlike}
 use Rattle.machine.proofs.KindLaw.{unfreeze-number}
 use Rattle.machine.proofs.QuestionLaw.{all-yes}
 use Rattle.machine.proofs.StepLaw.{step-number, accepts}
@@ -109,7 +109,7 @@ module _ {γ : Geometry} (σ : Proper γ) where
         entries a k e (CountingTo x above l) = g x .0 .entry a k e l
         entries a k e (NeverUnfrozen x y z) = h x y z .0 .entry a k e (in-time s c a)
 
-  pub start-shown : (s : Box) (b : ℕ) (xs ys : List Event) → AreBytes (s .disk) → held γ (s .memory) ≡ none → (es : List Event)
+  start-shown : (s : Box) (b : ℕ) (xs ys : List Event) → AreBytes (s .disk) → held γ (s .memory) ≡ none → (es : List Event)
       → Throughout γ (Unforged γ) s es
       → (Throughout γ (NotUnfrozen γ b) s xs → Throughout γ (NotUnfrozen γ b) s ys → Throughout γ (NotUnfrozen γ b) s es)
       → ShowsStart γ s b xs ys es
@@ -120,16 +120,32 @@ module _ {γ : Geometry} (σ : Proper γ) where
       (λ f. shown s b bytes n (startEntry γ s b .word) false (inr (f, omega arith)) es u (λ x. absurd (false≢true x)))
       (λ f x y. shown s b bytes n (suc latestTime) true (inl (f, inr refl)) es u (λ t. never x y))
 
-  -- ---- one event of a run
+  pub both-shown : (s : Box) (b : ℕ) (xs ys : List Event) → AreBytes (s .disk) → held γ (s .memory) ≡ none → Throughout γ (Unforged γ) s xs
+      → Throughout γ (Unforged γ) s ys → ShowsStart γ s b xs ys xs × ShowsStart γ s b xs ys ys
+  both-shown s b xs ys bytes n u v =
+      (start-shown s b xs ys bytes n xs u (λ x y. x), start-shown s b xs ys bytes n ys v (λ x y. y))
+
+  -- ---- one event of each run
 
   throughout-at : (P : Box → Event → Type 0) (s : Box) (earlier : List Event) (e : Event) (later : List Event)
       → Throughout γ P s (earlier ++ (e ∷ later)) → P (run γ s earlier) e
   throughout-at P s [] e later h = h .0
   throughout-at P s (x ∷ xs) e later h = throughout-at P (after γ s x) xs e later (h .1)
 
-  -- an accepted read of a protected block
-  pub read-in : (s : Box) (b : ℕ) (xs ys es : List Event) → ShowsStart γ s b xs ys es → (c : Command) (x : ReadIn γ s b es c)
-      → Protected γ s b xs ys (c .now) → step γ (run γ s (x .earlier)) c .answer ≡ padded γ (startContent γ s b)
-  read-in s b xs ys es h c x p =
-      let P = Shows γ b (startContent γ s b) (timeOfWrite (startEntry γ s b)) (Protected γ s b xs ys) in
-      throughout-at P s (x .earlier) (Given c) (x .later) (subst (Throughout γ P s) (x .split) h) .read (x .accepted) (x .kind) (x .block) p
+  -- what each accepted command of kind k on a protected block shows as at the start, two of them show alike
+  pub seen-alike : {A : Type 0} (k : ℕ) (seen : List ℕ → A) (kept : Box → ℕ → A)
+      → ((s : Box) (b : ℕ) (during : ℕ → Type 0) (t : Box) (c : Command)
+      → CommandShows γ b (startContent γ s b) (timeOfWrite (startEntry γ s b)) during t c
+      → Accepted γ t c → c .kind ≡ k → c .block ≡ b → during (c .now) → seen (step γ t c .answer) ≡ kept s b)
+      → SeenAlike γ k seen
+  seen-alike k seen kept shows s b xs ys bytes n u v c d x y p q = seen-in xs (both .0) c x p ∙ sym (seen-in ys (both .1) d y q)
+    where
+      both : ShowsStart γ s b xs ys xs × ShowsStart γ s b xs ys ys
+      both = both-shown s b xs ys bytes n u v
+
+      seen-in : (es : List Event) → ShowsStart γ s b xs ys es → (c : Command) (x : ShownIn γ k s b es c) → Protected γ s b xs ys (c .now)
+          → seen (step γ (run γ s (x .earlier)) c .answer) ≡ kept s b
+      seen-in es h c x p =
+          let P = Shows γ b (startContent γ s b) (timeOfWrite (startEntry γ s b)) (Protected γ s b xs ys) in
+          shows s b (Protected γ s b xs ys) (run γ s (x .earlier)) c
+          (throughout-at P s (x .earlier) (Given c) (x .later) (subst (Throughout γ P s) (x .split) h)) (x .accepted) (x .kind) (x .block) p

@@ -1,31 +1,69 @@
--- What kinds 3 to 6 answer is the current page with the tag that question 7 asks for next. Assumes nothing.
+-- What kinds 1 to 6 answer: the content, the entry on the current page, or that page with the tag that question 7 asks for next. Assumes
+-- nothing.
 use mathlib.Core.Path.{_≡_, refl, ap, sym, _∙_}
-use mathlib.Core.List.{List}
-use Prim.Native.Nat.{ℕ}
+use mathlib.Core.List.{List, [], _∷_, _++_, append-assoc}
+use Prim.Native.Nat.{ℕ, _-_}
 use borrow.Author.Tests.{ltb-true}
 use lib.ListN.{length}
+use Rattle.octets.specs.Part.{repeated}
 use Rattle.octets.proofs.EqualLaw.{equal-yes}
 use Rattle.lockpage.specs.Geometry.{Geometry, Proper}
 use Rattle.lockpage.specs.Size.{pageSize}
+use Rattle.lockpage.specs.declared.Entry.{Entry as PageEntry}
 use Rattle.lockpage.specs.declared.Update.{Update}
-use Rattle.addressing.specs.Map.{groupOf}
+use Rattle.lockpage.specs.Entry.{EntryFits, entryBytes}
+use Rattle.lockpage.specs.State.{state, stateNumber, timeLeftBytes}
+use Rattle.lockpage.specs.Page.{entryAt}
+use Rattle.lockpage.proofs.PageLaw.{entryAt-front}
+use Rattle.addressing.specs.Map.{groupOf, placeOf, physical}
+use Rattle.disk.specs.Disk.{block}
 use Rattle.memory.specs.Memory.{groups}
-use Rattle.machine.specs.declared.Kind.the-variants.{Page, Change}
-use Rattle.machine.specs.Command.{Box, Command, Outcome, kindOf, broughtPage, broughtTag}
+use Rattle.machine.specs.declared.Kind.the-variants.{Read, Entry, Page, Change}
+use Rattle.machine.specs.Command.{Box, Command, Outcome, kindOf, broughtPage, broughtTag, answerSize}
 use Rattle.machine.specs.Tag.{tag, tagged, currentPage}
 use Rattle.machine.specs.Question.{refusal}
-use Rattle.machine.specs.Effect.{stored, effect, showPage, changedPage, changedMemory, change}
-use Rattle.machine.specs.Step.{step, timed, done}
+use Rattle.machine.specs.Effect.{entryAnswer, stored, effect, read, showEntry, showPage, changedPage, changedMemory, change}
+use Rattle.machine.specs.Step.{step, timed, padded, done}
 use Rattle.machine.specs.After.{Serves, AnswerServes}
 use Rattle.machine.proofs.QuestionLaw.{all-yes}
 use Rattle.machine.proofs.StepLaw.{step-accepted, padded-full}
 use Rattle.machine.proofs.TagLaw.{tagged-length, tagged-page, tagged-tag, current-length}
 use Rattle.machine.proofs.PassedLaw.{passed, passed-timed, accepted-changes}
 use Rattle.machine.proofs.EffectLaw.{changed-length}
+use Rattle.machine.proofs.TimedLaw.{current-timed}
 use Rattle.machine.proofs.AfterLaw.{own-page}
 
 -- γ is any proper geometry
 module _ {γ : Geometry} (σ : Proper γ) where
+  -- ---- kinds 1 and 2
+
+  pub read-answer : (s : Box) (c : Command) → kindOf c ≡ Read → refusal γ s c ≡ 0
+      → step γ s c .answer ≡ padded γ (block γ (s .disk) (physical γ (c .block)))
+  unfolding done effect read timed
+  read-answer s c e r = ap (λ (o : Outcome). o .answer) (step-accepted σ Read s c e r)
+
+  -- the entry at the start of an answer to kind 2
+  answered-entry : (now : ℕ) (e : PageEntry) → EntryFits e → entryAt (padded γ (entryAnswer now e)) 0 ≡ e
+  unfolding padded entryAnswer
+  answered-entry now e f =
+      let rest : List ℕ = timeLeftBytes now e ++ (stateNumber (state now e) ∷ []) in
+      let zeros : List ℕ = repeated (answerSize γ - length (entryBytes e ++ rest)) 0 in
+      ap (λ (l : List ℕ). entryAt l 0) (append-assoc (entryBytes e) rest zeros) ∙ entryAt-front e (rest ++ zeros) f
+
+  -- it is the block's on the current page
+  pub entry-answer : (s : Box) (c : Command) → kindOf c ≡ Entry → refusal γ s c ≡ 0
+      → EntryFits (entryAt (currentPage γ s (groupOf γ (c .block))) (placeOf γ (c .block)))
+      → entryAt (step γ s c .answer) 0 ≡ entryAt (currentPage γ s (groupOf γ (c .block))) (placeOf γ (c .block))
+  unfolding done effect showEntry
+  entry-answer s c e r f =
+      let g = groupOf γ (c .block) in
+      let same = current-timed σ Entry s c (passed σ Entry s c (all-yes σ Entry s c e r)) g in
+      ap (λ (o : Outcome). entryAt (o .answer) 0) (step-accepted σ Entry s c e r)
+      ∙ ap (λ (p : List ℕ). entryAt (padded γ (entryAnswer (c .now) (entryAt p (placeOf γ (c .block))))) 0) same
+      ∙ answered-entry (c .now) (entryAt (currentPage γ s g) (placeOf γ (c .block))) f
+
+  -- ---- kinds 3 to 6
+
   -- an update answers the page that it holds, with the new tag
   pub changed-answer : (u : Update) (s : Box) (c : Command) → kindOf c ≡ Change u → refusal γ s c ≡ 0
       → step γ s c .answer ≡ tagged γ (step γ s c .box .memory) (groupOf γ (c .block)) (changedPage γ u c)

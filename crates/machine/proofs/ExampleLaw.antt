@@ -7,6 +7,7 @@ use mathlib.Core.List.{List}
 use Prim.Native.Nat.{ℕ, _+_, _≤_, _<_}
 use native.Mathlib.Omega.{arith}
 use borrow.Author.Tests.{eq-eqb, le-leb, lt-ltb}
+use lib.Dec.{lit<}
 use lib.ListN.{length}
 use Rattle.octets.specs.Part.{repeated}
 use Rattle.octets.proofs.EqualLaw.{equal-yes}
@@ -28,20 +29,24 @@ use Rattle.memory.specs.Memory.{count, lastTime, groups, held, none}
 use Rattle.validity.specs.Valid.{countLimit}
 use Rattle.validity.proofs.ValidLaw.{facts}
 use Rattle.machine.specs.declared.Kind.{Kind}
-use Rattle.machine.specs.declared.Kind.the-variants.{Change, Sync, Restart}
-use Rattle.machine.specs.Command.{Box, kindNumbered, proofSize, broughtPage, broughtEntry, answerSize}
+use Rattle.machine.specs.declared.Kind.the-variants.{Read, Entry, Change, Sync, Restart}
+use Rattle.machine.specs.Command.{Box, Command, Outcome, kindNumbered, kindOf, proofSize, broughtPage, broughtEntry, answerSize}
 use Rattle.machine.specs.Tag.{tag, currentPage}
 use Rattle.machine.specs.Question.{contentLength, questionsTo, questions, firstNo, refusal, AllYes}
-use Rattle.machine.specs.Effect.{updatedPage}
-use Rattle.machine.specs.Step.{step}
+use Rattle.machine.specs.Effect.{stored, effect, read, showEntry, updatedPage}
+use Rattle.machine.specs.Step.{step, timed, done}
 use Rattle.machine.specs.Run.{Given}
 use Rattle.machine.specs.Claims.{ValidBox}
 use Rattle.machine.specs.Protection.{Unforged}
 use Rattle.machine.specs.Example.{updating, plain}
-use Rattle.machine.proofs.QuestionLaw.{yes-accepted}
+use Rattle.machine.proofs.QuestionLaw.{yes-accepted, all-yes}
+use Rattle.machine.proofs.StepLaw.{step-accepted}
 use Rattle.machine.proofs.TagLaw.{tagged-length, tagged-page, tagged-tag, current-length, current-other}
+use Rattle.machine.proofs.PassedLaw.{passed, timed-reads}
 use Rattle.machine.proofs.ValidBoxLaw.{accepted-valid}
+use Rattle.machine.proofs.TimedLaw.{current-timed}
 use Rattle.machine.proofs.AfterLaw.{accepted-after, own-page, own-count, own-held, own-on-disk, lost-count}
+use Rattle.machine.proofs.AnswerLaw.{entry-answer}
 
 -- what is known of block 0 of a box of one group: the last time, the count, the held group, the entry on the current page and on the
 -- disk's
@@ -56,7 +61,7 @@ pub record Known (time counted holds : ℕ) (now-entry disk-entry : PageEntry) (
 
 -- ---- an update of block 0 that brings the current page
 
-module _ (time counted holds : ℕ) (e d : PageEntry) (s : Box) (h : Known time counted holds e d s) where
+module _ {time counted holds : ℕ} {e d : PageEntry} {s : Box} (h : Known time counted holds e d s) where
   page-length : length (currentPage base s 0) ≡ pageSize base
   page-length =
       current-length base-proper s 0 (facts base-proper (s .memory) (h .valid .memory) .size) (h .valid .disk) (omega (arith, h .one))
@@ -136,11 +141,12 @@ module _ (time counted holds : ℕ) (e d : PageEntry) (s : Box) (h : Known time 
             ∙ h .on-disk;
       }
 
-  -- ---- sync and restart
+  -- ---- a read, an entry, a sync and a restart are accepted
 
-  -- the questions put to a restart are those put to a sync
-  plain-yes : (kind now : ℕ) → time ≤ now → now ≤ latestTime → AllYes (questionsTo base Sync s (plain kind now))
-  plain-yes kind now later early = (
+  -- the questions put to an entry are those put to a read
+  shown-yes : (kind now : ℕ) → time ≤ now → now ≤ latestTime → AllYes (questionsTo base Read s (plain kind now))
+  unfolding dataBlocks
+  shown-yes kind now later early = (
     h .valid .memory,
     (
       eq-eqb (length (s .disk)) (diskSize base (groups base (s .memory))) (h .valid .disk),
@@ -149,7 +155,7 @@ module _ (time counted holds : ℕ) (e d : PageEntry) (s : Box) (h : Known time 
         (
           and-intro (le-leb (lastTime base (s .memory)) now (omega (arith, h .last))) (le-leb now latestTime early),
           (
-            refl,
+            lt-ltb 0 (dataBlocks base (groups base (s .memory))) (omega (arith, h .one)),
             (
               and-intro refl (and-intro refl (eq-eqb (length (repeated (answerSize base) 0)) (answerSize base) (repeated-length (answerSize base) 0))),
               (refl, (refl, (refl, (refl, (refl, tt))))),
@@ -160,6 +166,20 @@ module _ (time counted holds : ℕ) (e d : PageEntry) (s : Box) (h : Known time 
     ),
   )
 
+  -- those put to a sync or a restart are the same but for question 5
+  plain-yes : (kind now : ℕ) → time ≤ now → now ≤ latestTime → AllYes (questionsTo base Sync s (plain kind now))
+  plain-yes kind now later early =
+      let y = shown-yes kind now later early in
+      (y .0, (y .1 .0, (y .1 .1 .0, (y .1 .1 .1 .0, (refl, y .1 .1 .1 .1 .1)))))
+
+  pub read-served : (now : ℕ) → time ≤ now → now ≤ latestTime → refusal base s (plain 1 now) ≡ 0
+  unfolding refusal questions kindNumbered
+  read-served now later early = yes-accepted (questionsTo base Read s (plain 1 now)) (shown-yes 1 now later early)
+
+  pub entry-served : (now : ℕ) → time ≤ now → now ≤ latestTime → refusal base s (plain 2 now) ≡ 0
+  unfolding refusal questions kindNumbered
+  entry-served now later early = yes-accepted (questionsTo base Entry s (plain 2 now)) (shown-yes 2 now later early)
+
   pub sync-served : (now : ℕ) → time ≤ now → now ≤ latestTime → refusal base s (plain 7 now) ≡ 0
   unfolding refusal questions kindNumbered
   sync-served now later early = yes-accepted (questionsTo base Sync s (plain 7 now)) (plain-yes 7 now later early)
@@ -167,6 +187,40 @@ module _ (time counted holds : ℕ) (e d : PageEntry) (s : Box) (h : Known time 
   pub restart-served : (now : ℕ) → time ≤ now → now ≤ latestTime → refusal base s (plain 8 now) ≡ 0
   unfolding refusal questions kindNumbered
   restart-served now later early = yes-accepted (questionsTo base Restart s (plain 8 now)) (plain-yes 8 now later early)
+
+  -- an entry answers the one on the current page
+  pub entry-answers : (now : ℕ) → refusal base s (plain 2 now) ≡ 0 → EntryFits e → entryAt (step base s (plain 2 now) .answer) 0 ≡ e
+  unfolding kindNumbered groupOf placeOf
+  entry-answers now r fits =
+      entry-answer base-proper s (plain 2 now) refl r (subst EntryFits (sym (h .current)) fits) ∙ h .current
+
+  -- ---- what they leave
+
+  -- a command that sets only the last time
+  timed-known : (c : Command) → refusal base s c ≡ 0 → step base s c .box ≡ timed base s (c .now)
+      → Known (c .now) counted holds e d (step base s c .box)
+  unfolding timed
+  timed-known c r same =
+      let q = passed base-proper (kindOf c) s c (all-yes base-proper (kindOf c) s c refl r) in
+      let reads = timed-reads base-proper (kindOf c) s c q in
+      subst (Known (c .now) counted holds e d) (sym same)
+      (record {
+        valid = subst (ValidBox base) same (accepted-valid base-proper s c r);
+        one = reads .groups ∙ h .one;
+        last = reads .time;
+        count-is = reads .count 0 (lit< tt) ∙ h .count-is;
+        held-is = reads .held ∙ h .held-is;
+        current = ap (λ (p : List ℕ). entryAt p 0) (current-timed base-proper (kindOf c) s c q 0) ∙ h .current;
+        on-disk = h .on-disk;
+      })
+
+  pub read-known : (now : ℕ) → refusal base s (plain 1 now) ≡ 0 → Known now counted holds e d (step base s (plain 1 now) .box)
+  unfolding kindNumbered done effect read stored timed
+  read-known now r = timed-known (plain 1 now) r (ap (λ (o : Outcome). o .box) (step-accepted base-proper Read s (plain 1 now) refl r))
+
+  pub entry-known : (now : ℕ) → refusal base s (plain 2 now) ≡ 0 → Known now counted holds e d (step base s (plain 2 now) .box)
+  unfolding kindNumbered done effect showEntry stored timed
+  entry-known now r = timed-known (plain 2 now) r (ap (λ (o : Outcome). o .box) (step-accepted base-proper Entry s (plain 2 now) refl r))
 
   -- group 0's page on a disk is the current one where none is held
   page-on-disk : (t : Box) → held base (t .memory) ≡ none → block base (t .disk) (pageBlock base 0) ≡ currentPage base t 0

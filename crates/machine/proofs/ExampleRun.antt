@@ -1,4 +1,4 @@
--- The commands of specs/Example.antt, one after the other. Assumes nothing.
+-- The commands of specs/Example.antt, one after the other: each is accepted. Assumes nothing.
 use mathlib.Core.Path.{_≡_, refl, ap, sym, _∙_}
 use mathlib.Mathlib.Data.Bool.Basic.{and-intro}
 use mathlib.Core.Logic.{inl}
@@ -9,8 +9,7 @@ use borrow.Author.Tests.{eq-eqb}
 use lib.Dec.{lit<, lit≤}
 use lib.ListN.{length}
 use Rattle.octets.specs.Part.{repeated}
-use Rattle.octets.proofs.RepeatedLaw.{repeated-length, repeated-below}
-use Rattle.octets.proofs.BelowLaw.{below-none}
+use Rattle.octets.proofs.RepeatedLaw.{repeated-length}
 use Rattle.lockpage.specs.Geometry.{base}
 use Rattle.lockpage.specs.Size.{blockSize}
 use Rattle.lockpage.specs.declared.Update.the-variants.{Write, Unfreeze}
@@ -22,37 +21,31 @@ use Rattle.lockpage.proofs.GeometryLaw.{base-proper}
 use Rattle.addressing.specs.Map.{diskSize, dataBlocks, groupOf, placeOf}
 use Rattle.memory.specs.Layout.{memorySize, saltSize}
 use Rattle.memory.specs.Memory.{none}
-use Rattle.machine.specs.declared.Kind.the-variants.{Sync, Restart}
-use Rattle.machine.specs.Command.{Box, boxOf, kindNumbered, answerSize}
+use Rattle.machine.specs.Command.{Box, boxOf, kindNumbered}
 use Rattle.machine.specs.Tag.{currentPage}
 use Rattle.machine.specs.Question.{refusal}
 use Rattle.machine.specs.Format.{formatQuestions, format}
-use Rattle.machine.specs.Run.{Throughout}
-use Rattle.machine.specs.Claims.{ByteBox, Formats}
-use Rattle.machine.specs.Protection.{Unforged}
-use Rattle.machine.specs.Example.{IsAccepted, events, formattedBox, writing, written, syncing, start, unfreezing, unfrozen, restarting, restarted, unfreezingAgain, counting, overwriting, PremisesMet}
-use Rattle.machine.proofs.QuestionLaw.{asks, yes-accepted, no-seventh}
-use Rattle.machine.proofs.StepLaw.{step-number}
-use Rattle.machine.proofs.TagLaw.{tagged-are, current-other, current-are}
-use Rattle.machine.proofs.BytesLaw.{accepted-bytes}
-use Rattle.machine.proofs.AfterLaw.{accepted-after}
+use Rattle.machine.specs.Claims.{Formats}
+use Rattle.machine.specs.Example.{formattedBox, writing, writtenBox, syncing, start, unfreezing, unfrozenBox, showing, shownBox, restarting, restartedBox, readingBack, readBox, unfreezingAgain, countingBox, overwriting, showingOther, otherBox, readingOther}
+use Rattle.machine.proofs.QuestionLaw.{yes-accepted}
+use Rattle.machine.proofs.TagLaw.{current-other}
 use Rattle.machine.proofs.FormatLaw.{formats}
-use Rattle.machine.proofs.ExampleLaw.{Known, served, updated-known, not-forged, sync-served, sync-known, restart-served, restart-known}
+use Rattle.machine.proofs.ExampleLaw.{Known, served, updated-known, read-served, entry-served, sync-served, restart-served, read-known, entry-known, sync-known, restart-known}
 
 -- ---- the formatted box
 
 -- what is formatted: zeros
-inside : Box
-inside = boxOf (repeated (memorySize base) 0) (repeated (diskSize base 1) 0)
+unfoldable pub zeroBox : Box
+zeroBox = boxOf (repeated (memorySize base) 0) (repeated (diskSize base 1) 0)
 
-as-formatted : Formats base inside 1 (repeated saltSize 0)
-as-formatted = formats base-proper inside 1 (repeated saltSize 0)
+pub as-formatted : Formats base zeroBox 1 (repeated saltSize 0)
+as-formatted = formats base-proper zeroBox 1 (repeated saltSize 0)
 
-format-passes : format base inside 1 (repeated saltSize 0) .number ≡ 0
-unfolding formatQuestions inside
+format-passes : format base zeroBox 1 (repeated saltSize 0) .number ≡ 0
+unfolding formatQuestions zeroBox
 format-passes =
     as-formatted .number
-    ∙ yes-accepted (formatQuestions base inside 1 (repeated saltSize 0)) (
+    ∙ yes-accepted (formatQuestions base zeroBox 1 (repeated saltSize 0)) (
       and-intro refl (and-intro refl (eq-eqb (length (repeated (memorySize base) 0)) (memorySize base) (repeated-length (memorySize base) 0))),
       (
         eq-eqb (length (repeated (diskSize base 1) 0)) (diskSize base 1) (repeated-length (diskSize base 1) 0),
@@ -60,8 +53,8 @@ format-passes =
       ),
     )
 
-known-formatted : Known 0 0 none blankEntry blankEntry formattedBox
-unfolding formattedBox inside groupOf placeOf dataBlocks
+pub known-formatted : Known 0 0 none blankEntry blankEntry formattedBox
+unfolding formattedBox zeroBox groupOf placeOf dataBlocks
 known-formatted =
     let r = as-formatted .reads format-passes in
     let page : entryAt (currentPage base formattedBox 0) 0 ≡ blankEntry = as-formatted .blank format-passes 0 (lit< tt) in
@@ -75,134 +68,80 @@ known-formatted =
       on-disk = ap (λ (p : List ℕ). entryAt p 0) (sym (current-other base-proper formattedBox 0 (λ e. omega (arith, r .held)))) ∙ page;
     }
 
--- ---- each command
+-- ---- each command of the run
 
-writing-served : refusal base formattedBox writing ≡ 0
+pub writing-served : refusal base formattedBox writing ≡ 0
 unfolding kindNumbered timeOfWrite flag isFrozen state expiryAt updated allowed wordLimit withinLimit
 writing-served =
-    served 0 0 none blankEntry blankEntry formattedBox known-formatted (Write 500) 4 1000 500 (repeated (blockSize base) 1) refl (lit≤ tt) (lit≤ tt)
-    (lit< tt) (repeated-length (blockSize base) 1) refl refl
+    served known-formatted (Write 500) 4 1000 500 (repeated (blockSize base) 1) refl (lit≤ tt) (lit≤ tt) (lit< tt)
+    (repeated-length (blockSize base) 1) refl refl
 
-known-written : Known 1000 1 0 (entry 500 2000) blankEntry written
-unfolding written kindNumbered updated
+known-written : Known 1000 1 0 (entry 500 2000) blankEntry writtenBox
+unfolding writtenBox kindNumbered updated
 known-written =
-    updated-known 0 0 none blankEntry blankEntry formattedBox known-formatted (Write 500) 4 1000 500 (repeated (blockSize base) 1) refl
-    writing-served (inl refl) (record { word = lit< tt; stamp = lit< tt })
-
-syncing-served : refusal base written syncing ≡ 0
-syncing-served = sync-served 1000 1 0 (entry 500 2000) blankEntry written known-written 1000 (lit≤ tt) (lit≤ tt)
-
-known-start : Known 1000 1 none (entry 500 2000) (entry 500 2000) start
-unfolding start
-known-start = sync-known 1000 1 0 (entry 500 2000) blankEntry written known-written 1000 syncing-served
-
-unfreezing-served : refusal base start unfreezing ≡ 0
-unfolding kindNumbered timeOfWrite flag isFrozen state expiryAt updated allowed wordLimit withinLimit
-unfreezing-served =
-    served 1000 1 none (entry 500 2000) (entry 500 2000) start known-start Unfreeze 5 1200 0 [] refl (lit≤ tt) (lit≤ tt) (lit< tt) refl refl
-    refl
-
-known-unfrozen : Known 1200 2 0 (entry 1700 2001) (entry 500 2000) unfrozen
-unfolding unfrozen kindNumbered timeOfWrite expiryAt updated
-known-unfrozen =
-    updated-known 1000 1 none (entry 500 2000) (entry 500 2000) start known-start Unfreeze 5 1200 0 [] refl unfreezing-served (inl refl)
+    updated-known known-formatted (Write 500) 4 1000 500 (repeated (blockSize base) 1) refl writing-served (inl refl)
     (record { word = lit< tt; stamp = lit< tt })
 
-restarting-served : refusal base unfrozen restarting ≡ 0
-restarting-served =
-    restart-served 1200 2 0 (entry 1700 2001) (entry 500 2000) unfrozen known-unfrozen 1300 (lit≤ tt) (lit≤ tt)
+pub syncing-served : refusal base writtenBox syncing ≡ 0
+syncing-served = sync-served known-written 1000 (lit≤ tt) (lit≤ tt)
 
-known-restarted : Known 1300 3 none (entry 500 2000) (entry 500 2000) restarted
-unfolding restarted
-known-restarted =
-    restart-known 1200 2 0 (entry 1700 2001) (entry 500 2000) unfrozen known-unfrozen 1300 restarting-served refl
+pub known-start : Known 1000 1 none (entry 500 2000) (entry 500 2000) start
+unfolding start
+known-start = sync-known known-written 1000 syncing-served
 
-unfreezing-again-served : refusal base restarted unfreezingAgain ≡ 0
+pub unfreezing-served : refusal base start unfreezing ≡ 0
 unfolding kindNumbered timeOfWrite flag isFrozen state expiryAt updated allowed wordLimit withinLimit
-unfreezing-again-served =
-    served 1300 3 none (entry 500 2000) (entry 500 2000) restarted known-restarted Unfreeze 5 1400 0 [] refl (lit≤ tt) (lit≤ tt) (lit< tt)
-    refl refl refl
+unfreezing-served = served known-start Unfreeze 5 1200 0 [] refl (lit≤ tt) (lit≤ tt) (lit< tt) refl refl refl
 
-known-counting : Known 1400 4 0 (entry 1900 2001) (entry 500 2000) counting
-unfolding counting kindNumbered timeOfWrite expiryAt updated
+pub known-unfrozen : Known 1200 2 0 (entry 1700 2001) (entry 500 2000) unfrozenBox
+unfolding unfrozenBox kindNumbered timeOfWrite expiryAt updated
+known-unfrozen =
+    updated-known known-start Unfreeze 5 1200 0 [] refl unfreezing-served (inl refl) (record { word = lit< tt; stamp = lit< tt })
+
+pub showing-served : refusal base unfrozenBox showing ≡ 0
+showing-served = entry-served known-unfrozen 1250 (lit≤ tt) (lit≤ tt)
+
+known-shown : Known 1250 2 0 (entry 1700 2001) (entry 500 2000) shownBox
+unfolding shownBox
+known-shown = entry-known known-unfrozen 1250 showing-served
+
+pub restarting-served : refusal base shownBox restarting ≡ 0
+restarting-served = restart-served known-shown 1300 (lit≤ tt) (lit≤ tt)
+
+known-restarted : Known 1300 3 none (entry 500 2000) (entry 500 2000) restartedBox
+unfolding restartedBox
+known-restarted = restart-known known-shown 1300 restarting-served refl
+
+pub reading-back-served : refusal base restartedBox readingBack ≡ 0
+reading-back-served = read-served known-restarted 1350 (lit≤ tt) (lit≤ tt)
+
+pub known-read : Known 1350 3 none (entry 500 2000) (entry 500 2000) readBox
+unfolding readBox
+known-read = read-known known-restarted 1350 reading-back-served
+
+pub unfreezing-again-served : refusal base readBox unfreezingAgain ≡ 0
+unfolding kindNumbered timeOfWrite flag isFrozen state expiryAt updated allowed wordLimit withinLimit
+unfreezing-again-served = served known-read Unfreeze 5 1400 0 [] refl (lit≤ tt) (lit≤ tt) (lit< tt) refl refl refl
+
+pub known-counting : Known 1400 4 0 (entry 1900 2001) (entry 500 2000) countingBox
+unfolding countingBox kindNumbered timeOfWrite expiryAt updated
 known-counting =
-    updated-known 1300 3 none (entry 500 2000) (entry 500 2000) restarted known-restarted Unfreeze 5 1400 0 [] refl unfreezing-again-served
-    (inl refl) (record { word = lit< tt; stamp = lit< tt })
+    updated-known known-read Unfreeze 5 1400 0 [] refl unfreezing-again-served (inl refl) (record { word = lit< tt; stamp = lit< tt })
 
-overwriting-served : refusal base counting overwriting ≡ 0
+pub overwriting-served : refusal base countingBox overwriting ≡ 0
 unfolding kindNumbered timeOfWrite flag isFrozen state expiryAt updated allowed wordLimit withinLimit
 overwriting-served =
-    served 1400 4 0 (entry 1900 2001) (entry 500 2000) counting known-counting (Write 0) 4 1900 0 (repeated (blockSize base) 2) refl (lit≤ tt)
-    (lit≤ tt) (lit< tt) (repeated-length (blockSize base) 2) refl refl
+    served known-counting (Write 0) 4 1900 0 (repeated (blockSize base) 2) refl (lit≤ tt) (lit≤ tt) (lit< tt)
+    (repeated-length (blockSize base) 2) refl refl
 
--- ---- the premises
+-- ---- and of the other run
 
-formatted-bytes : ByteBox formattedBox
-unfolding formattedBox inside
-formatted-bytes =
-    as-formatted .bytes
-    (record { memory = repeated-below 256 (memorySize base) 0 (lit< tt); disk = repeated-below 256 (diskSize base 1) 0 (lit< tt) })
-    (repeated-below 256 saltSize 0 (lit< tt))
+pub showing-other-served : refusal base start showingOther ≡ 0
+showing-other-served = entry-served known-start 1450 (lit≤ tt) (lit≤ tt)
 
-written-bytes : ByteBox written
-unfolding written
-written-bytes =
-    accepted-bytes base-proper formattedBox writing writing-served formatted-bytes
-    (record {
-      content = repeated-below 256 (blockSize base) 1 (lit< tt);
-      proof =
-          tagged-are base-proper (formattedBox .memory) (groupOf base 0) (currentPage base formattedBox (groupOf base 0))
-          (current-are base-proper formattedBox (groupOf base 0) (formatted-bytes .memory) (formatted-bytes .disk));
-      answer = repeated-below 256 (answerSize base) 0 (lit< tt);
-    })
-    .box
+known-other : Known 1450 1 none (entry 500 2000) (entry 500 2000) otherBox
+unfolding otherBox
+known-other = entry-known known-start 1450 showing-other-served
 
-start-bytes : ByteBox start
-unfolding start
-start-bytes =
-    accepted-bytes base-proper written syncing syncing-served written-bytes
-    (record { content = below-none 256 (lit< tt); proof = below-none 256 (lit< tt); answer = repeated-below 256 (answerSize base) 0 (lit< tt) })
-    .box
-
-unforged-events : Throughout base (Unforged base) start events
-unfolding unfrozen restarted counting kindNumbered asks
-unforged-events = (
-  not-forged 1000 1 none (entry 500 2000) (entry 500 2000) start known-start 5 1200 0 [],
-  (
-    λ y. absurd (no-seventh base-proper Restart unfrozen restarting refl refl y),
-    (
-      not-forged 1300 3 none (entry 500 2000) (entry 500 2000) restarted known-restarted 5 1400 0 [],
-      (not-forged 1400 4 0 (entry 1900 2001) (entry 500 2000) counting known-counting 4 1900 0 (repeated (blockSize base) 2), tt),
-    ),
-  ),
-)
-
-accepted-events : Throughout base IsAccepted start events
-unfolding unfrozen restarted counting
-accepted-events = (
-  step-number base-proper start unfreezing ∙ unfreezing-served,
-  (
-    step-number base-proper unfrozen restarting ∙ restarting-served,
-    (step-number base-proper restarted unfreezingAgain ∙ unfreezing-again-served, (step-number base-proper counting overwriting ∙ overwriting-served, tt)),
-  ),
-)
-
-pub premises-met : PremisesMet
-unfolding written start unfrozen restarted counting groupOf placeOf kindNumbered asks
-premises-met =
-    record {
-      begins-bytes = formatted-bytes .disk;
-      begins-none-held = known-formatted .held-is;
-      all-unforged = (
-        not-forged 0 0 none blankEntry blankEntry formattedBox known-formatted 4 1000 500 (repeated (blockSize base) 1),
-        (λ y. absurd (no-seventh base-proper Sync written syncing refl refl y), unforged-events),
-      );
-      all-accepted =
-          (step-number base-proper formattedBox writing ∙ writing-served, (step-number base-proper written syncing ∙ syncing-served, accepted-events));
-      bytes = start-bytes .disk;
-      none-held = known-start .held-is;
-      unforged = unforged-events;
-      time = known-start .last;
-      frozen = known-start .on-disk;
-      overwritten = accepted-after base-proper counting overwriting overwriting-served .content 0;
-    }
+pub reading-other-served : refusal base otherBox readingOther ≡ 0
+reading-other-served = read-served known-other 1499 (lit≤ tt) (lit≤ tt)

@@ -17,6 +17,7 @@ pub mod ShortcutLaw
 pub mod EdgeLaw
 pub mod ExampleLaw
 pub mod ExampleRun
+pub mod ExamplePremises
 pub mod SafeLaw
 pub mod KeptLaw
 pub mod ShownLaw

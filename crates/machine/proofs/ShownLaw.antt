@@ -2,30 +2,24 @@
 use mathlib.Core.Path.{_≡_, refl, ap, sym, subst, _∙_}
 use mathlib.Core.Bool.{true}
 use mathlib.Core.Logic.{⊎-elim}
-use mathlib.Core.List.{List, [], _∷_, _++_, append-assoc}
-use Prim.Native.Nat.{ℕ, _-_, _<_}
+use mathlib.Core.List.{List, [], _∷_}
+use Prim.Native.Nat.{ℕ, _<_}
 use native.Mathlib.Omega.{arith}
 use borrow.Author.Tests.{ltb-true}
-use lib.ListN.{length}
-use Rattle.octets.specs.Part.{repeated}
 use Rattle.lockpage.specs.Geometry.{Geometry, Proper}
-use Rattle.lockpage.specs.declared.Entry.{Entry as PageEntry}
 use Rattle.lockpage.specs.declared.Update.{Update}
 use Rattle.lockpage.specs.declared.Update.the-variants.{Unfreeze}
-use Rattle.lockpage.specs.Entry.{EntryFits, entryBytes, timeOfWrite}
-use Rattle.lockpage.specs.State.{state, stateNumber, timeLeftBytes}
+use Rattle.lockpage.specs.Entry.{timeOfWrite}
 use Rattle.lockpage.specs.Page.{entryAt}
-use Rattle.lockpage.proofs.PageLaw.{entryAt-front}
 use Rattle.addressing.specs.Map.{dataBlocks, groupOf, placeOf, physical, pageBlock}
 use Rattle.addressing.proofs.MapLaw.{groupOf-below}
 use Rattle.disk.specs.Disk.{block}
 use Rattle.memory.specs.Memory.{groups, held}
 use Rattle.machine.specs.declared.Kind.{Kind}
 use Rattle.machine.specs.declared.Kind.the-variants.{Read, Entry, Change}
-use Rattle.machine.specs.Command.{Box, Command, Outcome, kindOf, broughtPage, answerSize}
+use Rattle.machine.specs.Command.{Box, Command, Outcome, kindOf, broughtPage}
 use Rattle.machine.specs.Tag.{currentPage}
 use Rattle.machine.specs.Question.{refusal}
-use Rattle.machine.specs.Effect.{effect, read, showEntry, entryAnswer}
 use Rattle.machine.specs.Step.{step, timed, padded, done}
 use Rattle.machine.specs.Run.{Event, Given, after, Throughout}
 use Rattle.machine.specs.Protection.{Unforged, Shows}
@@ -34,6 +28,7 @@ use Rattle.machine.proofs.QuestionLaw.{all-yes, got-seventh, all-seven}
 use Rattle.machine.proofs.StepLaw.{step-accepted, accepts, accepted-or-same}
 use Rattle.machine.proofs.TagLaw.{current, current-same}
 use Rattle.machine.proofs.PassedLaw.{passed, passed-timed, accepted-changes, timed-reads}
+use Rattle.machine.proofs.AnswerLaw.{read-answer, entry-answer}
 use Rattle.machine.proofs.SafeLaw.{Watch, Safe, SafePage, Kept}
 use Rattle.machine.proofs.KeptLaw.{timed-kept, effect-kept}
 
@@ -75,42 +70,27 @@ module _ {γ : Geometry} (σ : Proper γ) where
 
   read-shown : (w : Watch) (s : Box) (c : Command) → Kept γ w s → refusal γ s c ≡ 0 → kindOf c ≡ Read → c .block ≡ w .block → c .now < w .bound
       → step γ s c .answer ≡ padded γ (w .content)
-  unfolding done effect read timed
   read-shown w s c h r k e l =
       let q = passed σ Read s c (all-yes σ Read s c k r) in
-      ap (λ (o : Outcome). o .answer) (step-accepted σ Read s c k r)
+      read-answer σ s c k r
       ∙ ap (λ (a : ℕ). padded γ (block γ (s .disk) (physical γ a))) e
       ∙ ap (padded γ) (h .safe (omega (arith, q .later)) .disk .content)
 
-  -- the entry at the start of the answer to kind 2
-  entry-answered : (now : ℕ) (e : PageEntry) → EntryFits e → entryAt (padded γ (entryAnswer now e)) 0 ≡ e
-  unfolding padded entryAnswer
-  entry-answered now e f =
-      let rest : List ℕ = timeLeftBytes now e ++ (stateNumber (state now e) ∷ []) in
-      let zeros : List ℕ = repeated (answerSize γ - length (entryBytes e ++ rest)) 0 in
-      ap (λ (l : List ℕ). entryAt l 0) (append-assoc (entryBytes e) rest zeros) ∙ entryAt-front e (rest ++ zeros) f
-
   entry-shown : (w : Watch) (s : Box) (c : Command) → Kept γ w s → refusal γ s c ≡ 0 → kindOf c ≡ Entry → c .block ≡ w .block → c .now < w .bound
       → timeOfWrite (entryAt (step γ s c .answer) 0) ≡ w .time
-  unfolding done effect showEntry
   entry-shown w s c h r k e l =
       let q = passed σ Entry s c (all-yes σ Entry s c k r) in
-      let t = timed γ s (c .now) in
-      let qt = passed-timed σ Entry s c q in
-      let kept = timed-kept σ w Entry s c q h in
-      let safe = kept .safe (omega (arith, timed-reads σ Entry s c q .time)) in
+      let safe = h .safe (omega (arith, q .later)) in
       let g = groupOf γ (c .block) in
-      let below : g < groups γ (t .memory) =
-      groupOf-below σ (groups γ (t .memory)) (c .block) (ltb-true (c .block) (dataBlocks γ (groups γ (t .memory))) (qt .range)) in
+      let below : g < groups γ (s .memory) =
+      groupOf-below σ (groups γ (s .memory)) (c .block) (ltb-true (c .block) (dataBlocks γ (groups γ (s .memory))) (q .range)) in
       let same : g ≡ groupOf γ (w .block) = ap (groupOf γ) e in
-      let shown : Safe w (entryAt (currentPage γ t g) (placeOf γ (c .block))) =
-      subst (λ (a : ℕ). Safe w (entryAt (currentPage γ t g) (placeOf γ a))) (sym e)
-      (current σ (SafePage γ w) t g
-      (λ x. safe .held (λ n. omega (arith, x, n, below, qt .memory .most)) (x ∙ same))
-      (subst (λ (i : ℕ). SafePage γ w (block γ (t .disk) (pageBlock γ i))) (sym same) (safe .disk .page))) in
-      ap (λ (o : Outcome). timeOfWrite (entryAt (o .answer) 0)) (step-accepted σ Entry s c k r)
-      ∙ ap timeOfWrite (entry-answered (c .now) (entryAt (currentPage γ t g) (placeOf γ (c .block))) (shown .fits))
-      ∙ shown .time
+      let shown : Safe w (entryAt (currentPage γ s g) (placeOf γ (c .block))) =
+      subst (λ (a : ℕ). Safe w (entryAt (currentPage γ s g) (placeOf γ a))) (sym e)
+      (current σ (SafePage γ w) s g
+      (λ x. safe .held (λ n. omega (arith, x, n, below, q .memory .most)) (x ∙ same))
+      (subst (λ (i : ℕ). SafePage γ w (block γ (s .disk) (pageBlock γ i))) (sym same) (safe .disk .page))) in
+      ap timeOfWrite (entry-answer σ s c k r (shown .fits)) ∙ shown .time
 
   -- ---- a run
 

@@ -7,16 +7,18 @@ use borrow.Author.Tests.{eqb-true}
 use lib.ListN.{length}
 use Rattle.octets.specs.Part.{AreBytes}
 use Rattle.lockpage.specs.Geometry.{Geometry, Proper, base, present}
+use Rattle.lockpage.specs.Entry.{timeOfWrite}
+use Rattle.lockpage.specs.Page.{entryAt}
 use Rattle.lockpage.proofs.GeometryLaw.{base-proper, present-proper}
 use Rattle.addressing.specs.Map.{diskSize}
 use Rattle.memory.specs.Memory.{groups}
 use Rattle.validity.proofs.ValidLaw.{facts}
 use Rattle.machine.specs.Command.{Box, Command, kindOf}
 use Rattle.machine.specs.Question.{refusal, questions}
-use Rattle.machine.specs.Step.{step, Accepted}
+use Rattle.machine.specs.Step.{step, padded, Accepted}
 use Rattle.machine.specs.Claims.{PapersBufferSizes, IsFirstNo, PassesIfAllYes, KindsAreOneToTen, NumberIsFirstNo, RefusalAltersNothing, AcceptedLeavesValid, StaysValid, InvalidRefuses, ByteBox, StepKeepsBytes, SameLengths, StepKeepsLengths, FormattingFormats}
 use Rattle.machine.specs.After.{AcceptedDoes, NewSaltDiffers, HeldPageFirst, AnswersServe}
-use Rattle.machine.specs.Protection.{Demand3, ReadsAlike}
+use Rattle.machine.specs.Protection.{startContent, startEntry, Demand3, ReadsAlike, EntriesAlike}
 use Rattle.machine.specs.Shortcuts.{Shortcuts}
 use Rattle.machine.specs.EdgeValues.{EdgeValues}
 use Rattle.machine.specs.Example.{PremisesMet}
@@ -35,8 +37,8 @@ use Rattle.machine.proofs.AnswerLaw.{answer-serves}
 use Rattle.machine.proofs.FormatLaw as format
 use Rattle.machine.proofs.ShortcutLaw as shortcut
 use Rattle.machine.proofs.EdgeLaw as edge
-use Rattle.machine.proofs.ExampleRun as example
-use Rattle.machine.proofs.AlikeLaw.{start-shown, read-in}
+use Rattle.machine.proofs.ExamplePremises as example
+use Rattle.machine.proofs.AlikeLaw.{both-shown, seen-alike}
 
 -- ---- specs/Claims.antt
 
@@ -157,14 +159,15 @@ module _ {γ : Geometry} (σ : Proper γ) where
 
   pub demand-3 : Demand3 γ
   unfolding Demand3
-  demand-3 s b xs ys bytes n u v =
-      (start-shown σ s b xs ys bytes n xs u (λ x y. x), start-shown σ s b xs ys bytes n ys v (λ x y. y))
+  demand-3 s b xs ys bytes n u v = both-shown σ s b xs ys bytes n u v
 
   pub reads-alike : ReadsAlike γ
-  unfolding ReadsAlike Demand3
-  reads-alike s b xs ys bytes n u v c d x y p q =
-      let both = demand-3 s b xs ys bytes n u v in
-      read-in σ s b xs ys xs (both .0) c x p ∙ sym (read-in σ s b xs ys ys (both .1) d y q)
+  unfolding ReadsAlike
+  reads-alike = seen-alike σ 1 (λ answer. answer) (λ s b. padded γ (startContent γ s b)) (λ s b during t c h. h .read)
+
+  pub entries-alike : EntriesAlike γ
+  unfolding EntriesAlike
+  entries-alike = seen-alike σ 2 (λ answer. timeOfWrite (entryAt answer 0)) (λ s b. timeOfWrite (startEntry γ s b)) (λ s b during t c h. h .entry)
 
 -- ---- specs/EdgeValues.antt and specs/Example.antt
 

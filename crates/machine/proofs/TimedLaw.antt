@@ -36,7 +36,7 @@ module _ {γ : Geometry} (σ : Proper γ) where
   pub in-memory : (m : List ℕ) → Valid γ m → (g : ℕ) → g < groups γ m → g < γ .mostGroups
   in-memory m v g h = omega (arith, v .most)
 
-  current-timed : (k : Kind) (s : Box) (c : Command) → Passed γ k s c → (g : ℕ) → currentPage γ (timed γ s (c .now)) g ≡ currentPage γ s g
+  pub current-timed : (k : Kind) (s : Box) (c : Command) → Passed γ k s c → (g : ℕ) → currentPage γ (timed γ s (c .now)) g ≡ currentPage γ s g
   unfolding timed
   current-timed k s c q g =
       let r = timed-reads σ k s c q in

@@ -1,23 +1,25 @@
--- The premises of demand 3 can be met: a run that writes a block, syncs, unfreezes it, restarts, unfreezes it again and overwrites it,
--- each command accepted and no page forged, and in it a start from which the block is protected. The claim is a type; its proof is
--- proofs/Theorems.antt, premises-met.
+-- The premises of demand 3 can be met, by two runs in which it says something. One writes a block and syncs; from there on, which is the
+-- start, it unfreezes the block, shows its entry, restarts, reads it back, unfreezes it again and overwrites it. The other shows and
+-- reads it from the same start. Each command is accepted, no page is forged, and the block is protected where it is shown and read.
+-- The claim is a type; its proof is proofs/Theorems.antt, premises-met.
 use mathlib.Core.Path.{_≡_}
 use mathlib.Core.List.{List, [], _∷_}
 use Prim.Native.Nat.{ℕ}
 use Rattle.octets.specs.Part.{AreBytes, repeated}
 use Rattle.lockpage.specs.Geometry.{base}
 use Rattle.lockpage.specs.Size.{blockSize}
-use Rattle.lockpage.specs.Entry.{entry}
+use Rattle.lockpage.specs.Entry.{entry, stampOf, frozen, unfrozen}
+use Rattle.lockpage.specs.Page.{entryAt}
 use Rattle.addressing.specs.Map.{diskSize, groupOf, physical}
 use Rattle.disk.specs.Disk.{block}
 use Rattle.memory.specs.Layout.{memorySize, saltSize}
 use Rattle.memory.specs.Memory.{lastTime, held, none}
 use Rattle.machine.specs.Command.{Box, Command, boxOf, answerSize}
 use Rattle.machine.specs.Tag.{tagged, currentPage}
-use Rattle.machine.specs.Step.{step, Accepted}
+use Rattle.machine.specs.Step.{step, padded, Accepted}
 use Rattle.machine.specs.Format.{format}
 use Rattle.machine.specs.Run.{Event, Given, run, Throughout}
-use Rattle.machine.specs.Protection.{Unforged, startEntry}
+use Rattle.machine.specs.Protection.{Unforged, startContent, startEntry, Protected, ShownIn}
 
 -- an update of block 0 that brings the current page with its tag
 abbrev pub updating : Box → ℕ → ℕ → ℕ → List ℕ → Command
@@ -32,7 +34,7 @@ updating s kind now value content =
       answer = repeated (answerSize base) 0;
     }
 
--- a command that names and brings nothing
+-- a command that brings nothing; if it names a block, block 0
 abbrev pub plain : ℕ → ℕ → Command
 plain kind now =
     record { kind = kind; block = 0; now = now; value = 0; content = []; proof = []; answer = repeated (answerSize base) 0 }
@@ -47,15 +49,15 @@ formattedBox = format base (boxOf (repeated (memorySize base) 0) (repeated (disk
 abbrev pub writing : Command
 writing = updating formattedBox 4 1000 500 (repeated (blockSize base) 1)
 
-unfoldable pub written : Box
-written = step base formattedBox writing .box
+unfoldable pub writtenBox : Box
+writtenBox = step base formattedBox writing .box
 
 -- and the page synced
 abbrev pub syncing : Command
 syncing = plain 7 1000
 
 unfoldable pub start : Box
-start = step base written syncing .box
+start = step base writtenBox syncing .box
 
 -- ---- the run
 
@@ -63,34 +65,77 @@ start = step base written syncing .box
 abbrev pub unfreezing : Command
 unfreezing = updating start 5 1200 0 []
 
-unfoldable pub unfrozen : Box
-unfrozen = step base start unfreezing .box
+unfoldable pub unfrozenBox : Box
+unfrozenBox = step base start unfreezing .box
 
--- a restart at 1300 loses that
+-- its entry shown at 1250
+abbrev pub showing : Command
+showing = plain 2 1250
+
+unfoldable pub shownBox : Box
+shownBox = step base unfrozenBox showing .box
+
+-- a restart at 1300 loses the unfreeze
 abbrev pub restarting : Command
 restarting = plain 8 1300
 
-unfoldable pub restarted : Box
-restarted = step base unfrozen restarting .box
+unfoldable pub restartedBox : Box
+restartedBox = step base shownBox restarting .box
+
+-- read back at 1350
+abbrev pub readingBack : Command
+readingBack = plain 1 1350
+
+unfoldable pub readBox : Box
+readBox = step base restartedBox readingBack .box
 
 -- unfrozen at 1400
 abbrev pub unfreezingAgain : Command
-unfreezingAgain = updating restarted 5 1400 0 []
+unfreezingAgain = updating readBox 5 1400 0 []
 
-unfoldable pub counting : Box
-counting = step base restarted unfreezingAgain .box
+unfoldable pub countingBox : Box
+countingBox = step base readBox unfreezingAgain .box
 
 -- and overwritten at 1900, when the lock has passed
 abbrev pub overwriting : Command
-overwriting = updating counting 4 1900 0 (repeated (blockSize base) 2)
+overwriting = updating countingBox 4 1900 0 (repeated (blockSize base) 2)
 
 abbrev pub events : List Event
-events = Given unfreezing ∷ Given restarting ∷ Given unfreezingAgain ∷ Given overwriting ∷ []
+events =
+    Given unfreezing
+    ∷ Given showing
+    ∷ Given restarting
+    ∷ Given readingBack
+    ∷ Given unfreezingAgain
+    ∷ Given overwriting
+    ∷ []
+
+-- ---- the other run
+
+-- its entry shown at 1450
+abbrev pub showingOther : Command
+showingOther = plain 2 1450
+
+unfoldable pub otherBox : Box
+otherBox = step base start showingOther .box
+
+-- and the block read at 1499, in the last second before T + L
+abbrev pub readingOther : Command
+readingOther = plain 1 1499
+
+abbrev pub otherEvents : List Event
+otherEvents = Given showingOther ∷ Given readingOther ∷ []
 
 -- ---- the claim
 
 abbrev pub IsAccepted : Box → Event → Type 0
 IsAccepted s (Given c) = Accepted base s c
+
+-- an accepted command of kind k on block 0, at a time when the block is protected; P holds of its answer
+pub record ShowsProtected (k : ℕ) (es : List Event) (c : Command) (P : List ℕ → Type 0) : Type 0 where
+  pub among : ShownIn base k start 0 es c
+  pub protected : Protected base start 0 events otherEvents (c .now)
+  pub answers : P (step base (run base start (among .earlier)) c .answer)
 
 pub record PremisesMet : Type 0 where
   -- the whole run, from the formatted box on
@@ -98,10 +143,19 @@ pub record PremisesMet : Type 0 where
   pub begins-none-held : held base (formattedBox .memory) ≡ none
   pub all-unforged : Throughout base (Unforged base) formattedBox (Given writing ∷ Given syncing ∷ events)
   pub all-accepted : Throughout base IsAccepted formattedBox (Given writing ∷ Given syncing ∷ events)
-  -- and from the start on: T is 1000, block 0 is frozen under lock 500, and the last command overwrites it
+  -- both runs, from the start on: T is 1000, block 0 is frozen under lock 500, and in the end the first run overwrites it
   pub bytes : AreBytes (start .disk)
   pub none-held : held base (start .memory) ≡ none
   pub unforged : Throughout base (Unforged base) start events
-  pub time : lastTime base (start .memory) ≡ 1000
-  pub frozen : startEntry base start 0 ≡ entry 500 2000
+  pub other-unforged : Throughout base (Unforged base) start otherEvents
+  pub last-time : lastTime base (start .memory) ≡ 1000
+  pub start-entry : startEntry base start 0 ≡ entry 500 (stampOf 1000 frozen)
+  pub start-content : startContent base start 0 ≡ repeated (blockSize base) 1
   pub overwritten : block base (run base start events .disk) (physical base 0) ≡ repeated (blockSize base) 2
+  -- before T + L both answer the time of write 1000, the first in the entry of its unfreeze, and both the content
+  pub shown : ShowsProtected 2 events showing (λ answer. entryAt answer 0 ≡ entry 1700 (stampOf 1000 unfrozen))
+  pub other-shown : ShowsProtected 2 otherEvents showingOther (λ answer. entryAt answer 0 ≡ entry 500 (stampOf 1000 frozen))
+  pub read-back : ShowsProtected 1 events readingBack (λ answer. answer ≡ padded base (repeated (blockSize base) 1))
+  pub other-read : ShowsProtected 1 otherEvents readingOther (λ answer. answer ≡ padded base (repeated (blockSize base) 1))
+  -- and the other run does not unfreeze it: were both as it is, the block would be protected to the end
+  pub to-the-end : (t : ℕ) → Protected base start 0 otherEvents otherEvents t

@@ -72,19 +72,28 @@ module _ (γ : Geometry) where
   Demand3 = (s : Box) (b : ℕ) (xs ys : List Event) → AreBytes (s .disk) → held γ (s .memory) ≡ none
       → Throughout γ Unforged s xs → Throughout γ Unforged s ys → ShowsStart s b xs ys xs × ShowsStart s b xs ys ys
 
-  -- ---- so two accepted reads, one in each run, have the same answer
+  -- ---- so two accepted reads of a protected block, one in each run, have the same answer, and two accepted entries the same time of write
 
-  -- an accepted read of block b, among the events of a run from s
-  pub record ReadIn (s : Box) (b : ℕ) (es : List Event) (c : Command) : Type 0 where
+  -- an accepted command of kind k on block b, among the events of a run from s
+  pub record ShownIn (k : ℕ) (s : Box) (b : ℕ) (es : List Event) (c : Command) : Type 0 where
     pub earlier : List Event
     pub later : List Event
     pub split : es ≡ earlier ++ (Given c ∷ later)
-    pub kind : c .kind ≡ 1
+    pub kind : c .kind ≡ k
     pub block : c .block ≡ b
     pub accepted : Accepted γ (run γ s earlier) c
 
-  unfoldable pub ReadsAlike : Type 0
-  ReadsAlike = (s : Box) (b : ℕ) (xs ys : List Event) → AreBytes (s .disk) → held γ (s .memory) ≡ none
+  -- "both runs show a protected block alike": what is seen in the answers of two such commands is the same
+  abbrev pub SeenAlike : {A : Type 0} → ℕ → (List ℕ → A) → Type 0
+  SeenAlike k seen = (s : Box) (b : ℕ) (xs ys : List Event) → AreBytes (s .disk) → held γ (s .memory) ≡ none
       → Throughout γ Unforged s xs → Throughout γ Unforged s ys
-      → (c d : Command) (x : ReadIn s b xs c) (y : ReadIn s b ys d) → Protected s b xs ys (c .now) → Protected s b xs ys (d .now)
-      → step γ (run γ s (x .earlier)) c .answer ≡ step γ (run γ s (y .earlier)) d .answer
+      → (c d : Command) (x : ShownIn k s b xs c) (y : ShownIn k s b ys d) → Protected s b xs ys (c .now) → Protected s b xs ys (d .now)
+      → seen (step γ (run γ s (x .earlier)) c .answer) ≡ seen (step γ (run γ s (y .earlier)) d .answer)
+
+  -- "every accepted read of it gives the content"
+  unfoldable pub ReadsAlike : Type 0
+  ReadsAlike = SeenAlike 1 (λ answer. answer)
+
+  -- "and every accepted entry the time of write"
+  unfoldable pub EntriesAlike : Type 0
+  EntriesAlike = SeenAlike 2 (λ answer. timeOfWrite (entryAt answer 0))
