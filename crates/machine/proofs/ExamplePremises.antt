@@ -10,7 +10,7 @@ use Rattle.octets.proofs.BelowLaw.{below-none}
 use Rattle.lockpage.specs.Geometry.{base}
 use Rattle.lockpage.specs.Size.{blockSize}
 use Rattle.lockpage.specs.declared.Entry.{Entry as PageEntry}
-use Rattle.lockpage.specs.Entry.{flag, frozen}
+use Rattle.lockpage.specs.Entry.{flag, frozenFlag}
 use Rattle.lockpage.proofs.GeometryLaw.{base-proper}
 use Rattle.addressing.specs.Map.{diskSize, groupOf, placeOf, physical}
 use Rattle.disk.specs.Disk.{block}
@@ -102,7 +102,7 @@ accepted-events = (
 
 -- ---- what is shown
 
-start-frozen : flag (startEntry base start 0 .stamp) ≡ frozen
+start-frozen : flag (startEntry base start 0 .stamp) ≡ frozenFlag
 unfolding groupOf placeOf flag
 start-frozen = ap (λ (e : PageEntry). flag (e .stamp)) (known-start .on-disk)
 

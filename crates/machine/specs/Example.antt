@@ -8,7 +8,7 @@ use Prim.Native.Nat.{ℕ}
 use Rattle.octets.specs.Part.{AreBytes, repeated}
 use Rattle.lockpage.specs.Geometry.{base}
 use Rattle.lockpage.specs.Size.{blockSize}
-use Rattle.lockpage.specs.Entry.{entry, stampOf, frozen, unfrozen}
+use Rattle.lockpage.specs.Entry.{entry, stampOf, frozenFlag, unfrozenFlag}
 use Rattle.lockpage.specs.Page.{entryAt}
 use Rattle.addressing.specs.Map.{diskSize, groupOf, physical}
 use Rattle.disk.specs.Disk.{block}
@@ -149,12 +149,12 @@ pub record PremisesMet : Type 0 where
   pub unforged : Throughout base (Unforged base) start events
   pub other-unforged : Throughout base (Unforged base) start otherEvents
   pub last-time : lastTime base (start .memory) ≡ 1000
-  pub start-entry : startEntry base start 0 ≡ entry 500 (stampOf 1000 frozen)
+  pub start-entry : startEntry base start 0 ≡ entry 500 (stampOf 1000 frozenFlag)
   pub start-content : startContent base start 0 ≡ repeated (blockSize base) 1
   pub overwritten : block base (run base start events .disk) (physical base 0) ≡ repeated (blockSize base) 2
   -- before T + L both answer the time of write 1000, the first in the entry of its unfreeze, and both the content
-  pub shown : ShowsProtected 2 events showing (λ answer. entryAt answer 0 ≡ entry 1700 (stampOf 1000 unfrozen))
-  pub other-shown : ShowsProtected 2 otherEvents showingOther (λ answer. entryAt answer 0 ≡ entry 500 (stampOf 1000 frozen))
+  pub shown : ShowsProtected 2 events showing (λ answer. entryAt answer 0 ≡ entry 1700 (stampOf 1000 unfrozenFlag))
+  pub other-shown : ShowsProtected 2 otherEvents showingOther (λ answer. entryAt answer 0 ≡ entry 500 (stampOf 1000 frozenFlag))
   pub read-back : ShowsProtected 1 events readingBack (λ answer. answer ≡ padded base (repeated (blockSize base) 1))
   pub other-read : ShowsProtected 1 otherEvents readingOther (λ answer. answer ≡ padded base (repeated (blockSize base) 1))
   -- and the other run does not unfreeze it: were both as it is, the block would be protected to the end
