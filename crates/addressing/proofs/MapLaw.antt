@@ -40,6 +40,10 @@ module _ {γ : Geometry} (σ : Proper γ) where
   pub physical-at : (a place : ℕ) → place ≡ placeOf γ a → physical γ a ≡ groupBlocks γ * groupOf γ a + place
   physical-at a place e = physical-place a ∙ ap (λ (n : ℕ). groupBlocks γ * groupOf γ a + n) (sym e)
 
+  -- by a group and a place that were computed
+  pub physical-of : (a g place : ℕ) → g ≡ groupOf γ a → place ≡ placeOf γ a → groupBlocks γ * g + place ≡ physical γ a
+  physical-of a g place eg ep = ap (λ (n : ℕ). groupBlocks γ * n + place) eg ∙ sym (physical-at a place ep)
+
   pub placeOf-in : (a place : ℕ) → place ≡ placeOf γ a → place < groupBlocks γ
   placeOf-in a place e = omega (arith, placeOf-below a)
 

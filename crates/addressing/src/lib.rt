@@ -3,8 +3,7 @@
 ghost use mathlib.Core.Path.{_≡_};
 ghost use Prim.Native.Nat.{_<_};
 ghost use Rattle.lockpage.specs.Geometry.{present};
-ghost use Rattle.addressing.specs.Map.{groupBlocks, diskSize, dataBlocks, groupOf, placeOf, pageBlock, groupStart, blockStart};
-ghost use Rattle.addressing.specs.Map as M;
+ghost use Rattle.addressing.specs.Map.{groupBlocks, diskSize, dataBlocks, groupOf, placeOf, groupStart, blockStart};
 
 pub const BLOCK_SIZE: usize = lockpage::PAGE_SIZE;
 
@@ -43,20 +42,6 @@ pub fn place_of(block: u32) -> usize
     ensures { λ r. ⌜ r ≡ placeOf present block ⌝ }
 {
     (block % GROUP_DATA) as usize
-}
-
-// Its physical block.
-pub fn physical(block: u32) -> usize
-    ensures { λ r. ⌜ r ≡ M.physical present block ⌝ }
-{
-    block as usize + group_of(block) as usize
-}
-
-// The physical block of a group's page.
-pub fn page_block(group: u32) -> usize
-    ensures { λ r. ⌜ r ≡ pageBlock present group ⌝ }
-{
-    GROUP_BLOCKS * group as usize + PAGE_PLACE
 }
 
 // The first byte of a group's extent of the disk.

@@ -1,20 +1,18 @@
 // Kinds 1, 2, 3 and 10, which show something and change the last time alone.
 ghost use mathlib.Core.Path.{_≡_};
-ghost use Prim.Native.Nat.{_<_};
 ghost use lib.ListN.{length};
 ghost use Rattle.lockpage.specs.Geometry.{present};
-ghost use Rattle.lockpage.specs.Size.{pageSize};
 ghost use Rattle.lockpage.specs.Page.{entryAt};
-ghost use Rattle.addressing.specs.Map.{dataBlocks, groupOf, placeOf};
+ghost use Rattle.addressing.specs.Map.{groupOf, placeOf};
 ghost use Rattle.disk.specs.Disk.{HasGroup};
 ghost use Rattle.memory.specs.Layout.{memorySize};
-ghost use Rattle.memory.specs.Memory.{groups};
-ghost use Rattle.machine.specs.Command.{answerSize, boxOf, outcomeOf};
+ghost use Rattle.machine.specs.Command.{answerSize};
 ghost use Rattle.machine.specs.Tag.{currentPage};
 ghost use Rattle.machine.specs.Effect.{entryAnswer, showEntry, showPage};
 ghost use Rattle.machine.specs.Effect as E;
 ghost use Rattle.machine.specs.Step.{padded, accepted};
-ghost use Rattle.answers.specs.Ready.{Sound, AnswerSized, OnEveryDisk};
+ghost use Rattle.machine.specs.Call.{boxAt, outcomeAt};
+ghost use Rattle.answers.specs.Ready.{BlockReady, GroupReady, CurrentReady, OnEveryDisk};
 use crate::tail;
 use lockpage::Entry;
 use lockpage::PAGE_SIZE;
@@ -25,8 +23,9 @@ const IDENTIFY_SIZE: usize = 4;
 
 // Kind 1: a block.
 pub fn read(memory: &mut [u8], disk: &[u8], block: u32, time: u32, answer: &mut [u8])
-    requires { ⌜ Sound present (now memory) (now disk) × ((block < dataBlocks present (groups present (now memory))) × AnswerSized present (now answer)) ⌝ }
-    ensures { λ _. ⌜ outcomeOf 0 (now (memory .exit)) (now (disk .entry)) (now (answer .exit)) ≡ accepted present (λ s. E.read present s block) (boxOf (now (memory .entry)) (now (disk .entry))) time ⌝ }
+    requires { ⌜ BlockReady present (boxAt memory disk) block (now answer) ⌝ }
+    ensures { λ _. ⌜ outcomeAt 0 (memory .exit) (disk .entry) (answer .exit)
+        ≡ accepted present (λ s. E.read present s block) (boxAt (memory .entry) (disk .entry)) time ⌝ }
 {
     memory::set_last_time(memory, time);
     disk::whole::read_block(disk, block, &mut answer[0..addressing::BLOCK_SIZE]);
@@ -36,7 +35,7 @@ pub fn read(memory: &mut [u8], disk: &[u8], block: u32, time: u32, answer: &mut 
 // A block's entry on the current page of its group.
 fn current_entry(memory: &[u8], disk: &[u8], block: u32) -> Entry
     requires { ⌜ (length (now memory) ≡ memorySize present) × HasGroup present (now disk) (groupOf present block) ⌝ }
-    ensures { λ r. ⌜ r ≡ entryAt (currentPage present (boxOf (now (memory .entry)) (now (disk .entry))) (groupOf present block)) (placeOf present block) ⌝ }
+    ensures { λ r. ⌜ r ≡ entryAt (currentPage present (boxAt (memory .entry) (disk .entry)) (groupOf present block)) (placeOf present block) ⌝ }
 {
     let group = addressing::group_of(block);
     let place = addressing::place_of(block);
@@ -61,8 +60,9 @@ fn answer_entry(answer: &mut [u8], e: Entry, time: u32)
 
 // Kind 2: a block's entry.
 pub fn show_entry(memory: &mut [u8], disk: &[u8], block: u32, time: u32, answer: &mut [u8])
-    requires { ⌜ Sound present (now memory) (now disk) × ((block < dataBlocks present (groups present (now memory))) × AnswerSized present (now answer)) ⌝ }
-    ensures { λ _. ⌜ outcomeOf 0 (now (memory .exit)) (now (disk .entry)) (now (answer .exit)) ≡ accepted present (λ s. showEntry present s block time) (boxOf (now (memory .entry)) (now (disk .entry))) time ⌝ }
+    requires { ⌜ BlockReady present (boxAt memory disk) block (now answer) ⌝ }
+    ensures { λ _. ⌜ outcomeAt 0 (memory .exit) (disk .entry) (answer .exit)
+        ≡ accepted present (λ s. showEntry present s block time) (boxAt (memory .entry) (disk .entry)) time ⌝ }
 {
     memory::set_last_time(memory, time);
     let e = current_entry(memory, disk, block);
@@ -71,8 +71,8 @@ pub fn show_entry(memory: &mut [u8], disk: &[u8], block: u32, time: u32, answer:
 
 // Copies the current page of a group into out.
 fn copy_current(memory: &[u8], disk: &[u8], group: u32, out: &mut [u8])
-    requires { ⌜ (length (now memory) ≡ memorySize present) × (HasGroup present (now disk) group × (length (now out) ≡ pageSize present)) ⌝ }
-    ensures { λ _. ⌜ now (out .exit) ≡ currentPage present (boxOf (now (memory .entry)) (now (disk .entry))) group ⌝ }
+    requires { ⌜ CurrentReady present (boxAt memory disk) group (now out) ⌝ }
+    ensures { λ _. ⌜ now (out .exit) ≡ currentPage present (boxAt (memory .entry) (disk .entry)) group ⌝ }
 {
     if memory::held(memory) == group {
         held_page::copy_page(memory, out);
@@ -83,8 +83,9 @@ fn copy_current(memory: &[u8], disk: &[u8], group: u32, out: &mut [u8])
 
 // Kind 3: the current page of a group and its tag.
 pub fn show_page(memory: &mut [u8], disk: &[u8], group: u32, time: u32, answer: &mut [u8])
-    requires { ⌜ Sound present (now memory) (now disk) × ((group < groups present (now memory)) × AnswerSized present (now answer)) ⌝ }
-    ensures { λ _. ⌜ outcomeOf 0 (now (memory .exit)) (now (disk .entry)) (now (answer .exit)) ≡ accepted present (λ s. showPage present s group) (boxOf (now (memory .entry)) (now (disk .entry))) time ⌝ }
+    requires { ⌜ GroupReady present (boxAt memory disk) group (now answer) ⌝ }
+    ensures { λ _. ⌜ outcomeAt 0 (memory .exit) (disk .entry) (answer .exit)
+        ≡ accepted present (λ s. showPage present s group) (boxAt (memory .entry) (disk .entry)) time ⌝ }
 {
     memory::set_last_time(memory, time);
     copy_current(memory, disk, group, &mut answer[0..PAGE_SIZE]);
@@ -93,7 +94,7 @@ pub fn show_page(memory: &mut [u8], disk: &[u8], group: u32, time: u32, answer: 
 
 // Kind 10: the numbers of groups and of data blocks, whatever the disk.
 pub fn identify(memory: &mut [u8], time: u32, answer: &mut [u8])
-    requires { ⌜ (length (now memory) ≡ memorySize present) × AnswerSized present (now answer) ⌝ }
+    requires { ⌜ (length (now memory) ≡ memorySize present) × (length (now answer) ≡ answerSize present) ⌝ }
     ensures { λ _. ⌜ OnEveryDisk present (E.identify present) (now (memory .entry)) time (now (memory .exit)) (now (answer .exit)) ⌝ }
 {
     memory::set_last_time(memory, time);

@@ -1,13 +1,17 @@
 // A command's arguments: its kind, and questions 2 to 6, on the disk, the kind, the time, the address and the lengths. A function
-// for each, and all of them in order. The contracts cite the definitions of machine.
+// for each, and all of them in order; and the entry that an update brings. The contracts cite the definitions of machine.
 pub mod kinds;
 
 ghost use mathlib.Core.Path.{_≡_};
 ghost use lib.ListN.{length};
 ghost use Rattle.lockpage.specs.Geometry.{present};
+ghost use Rattle.lockpage.specs.Page.{entryAt};
+ghost use Rattle.addressing.specs.Map.{placeOf};
 ghost use Rattle.memory.specs.Layout.{memorySize};
+ghost use Rattle.machine.specs.Command.{proofSize, broughtPage};
 ghost use Rattle.machine.specs.Question.{question2, question4, question5, question6, passes, firstNo};
 ghost use Rattle.arguments.specs.ArgumentQuestions.{argumentQuestions};
+use lockpage::Entry;
 use machine::Kind;
 
 // Question 2.
@@ -95,4 +99,13 @@ pub fn refusal(
         return machine::LENGTH_WRONG;
     }
     machine::ACCEPTED
+}
+
+// The block's entry on the page brought.
+pub fn brought_entry(proof: &[u8], block: u32) -> Entry
+    requires { ⌜ length (now proof) ≡ proofSize present ⌝ }
+    ensures { λ r. ⌜ r ≡ entryAt (broughtPage present (now (proof .entry))) (placeOf present block) ⌝ }
+{
+    let place = addressing::place_of(block);
+    lockpage::entries::load_entry(&proof[0..lockpage::PAGE_SIZE], place)
 }

@@ -17,7 +17,9 @@ use Rattle.machine.specs.Step.{timed, done, accepted, step}
 use Rattle.machine.proofs.QuestionLaw.{all-numbered, accepted-yes}
 use Rattle.machine.proofs.PassedLaw.{passed, changes}
 use Rattle.machine.proofs.StepLaw.{step-accepted, refused-of}
-use Rattle.answers.specs.Ready.{Sound, MayChange}
+use Rattle.machine.specs.Claims.{ValidBox}
+use Rattle.answers.specs.Ready.{BlockReady, GroupReady}
+use Rattle.effects.specs.Ready.{UpkeepReady, RestartReady, ChangeReady}
 
 -- γ is any proper geometry
 module _ {γ : Geometry} (σ : Proper γ) where
@@ -28,23 +30,50 @@ module _ {γ : Geometry} (σ : Proper γ) where
       subst (λ (i : Kind). AllYes (questionsTo γ i s c)) ej (accepted-yes 11 (questionsTo γ k s c) (all-numbered σ k s c) e)
 
   -- what the effects ask for
-  pub sound : (k : Kind) (s : Box) (c : Command) → AllYes (questionsTo γ k s c) → Sound γ (s .memory) (s .disk)
-  sound k s c h = (h .0, passed σ k s c h .disk)
+  valid-box : (k : Kind) (s : Box) (c : Command) → AllYes (questionsTo γ k s c) → ValidBox γ s
+  valid-box k s c h = record { memory = h .0; disk = passed σ k s c h .disk }
 
-  pub read-inside : (s : Box) (c : Command) → AllYes (questionsTo γ Read s c) → c .block < dataBlocks γ (groups γ (s .memory))
-  read-inside s c h = ltb-true (c .block) (dataBlocks γ (groups γ (s .memory))) (passed σ Read s c h .range)
+  pub read-ready : (s : Box) (c : Command) → AllYes (questionsTo γ Read s c) → BlockReady γ s (c .block) (c .answer)
+  read-ready s c h =
+      record {
+        box = valid-box Read s c h;
+        block = ltb-true (c .block) (dataBlocks γ (groups γ (s .memory))) (passed σ Read s c h .range);
+        answer-size = passed σ Read s c h .answer;
+      }
 
-  pub entry-inside : (s : Box) (c : Command) → AllYes (questionsTo γ Entry s c) → c .block < dataBlocks γ (groups γ (s .memory))
-  entry-inside s c h = ltb-true (c .block) (dataBlocks γ (groups γ (s .memory))) (passed σ Entry s c h .range)
+  pub entry-ready : (s : Box) (c : Command) → AllYes (questionsTo γ Entry s c) → BlockReady γ s (c .block) (c .answer)
+  entry-ready s c h =
+      record {
+        box = valid-box Entry s c h;
+        block = ltb-true (c .block) (dataBlocks γ (groups γ (s .memory))) (passed σ Entry s c h .range);
+        answer-size = passed σ Entry s c h .answer;
+      }
 
-  pub page-inside : (s : Box) (c : Command) → AllYes (questionsTo γ Page s c) → c .block < groups γ (s .memory)
-  page-inside s c h = ltb-true (c .block) (groups γ (s .memory)) (passed σ Page s c h .range)
+  pub page-ready : (s : Box) (c : Command) → AllYes (questionsTo γ Page s c) → GroupReady γ s (c .block) (c .answer)
+  page-ready s c h =
+      record {
+        box = valid-box Page s c h;
+        group = ltb-true (c .block) (groups γ (s .memory)) (passed σ Page s c h .range);
+        answer-size = passed σ Page s c h .answer;
+      }
 
-  pub may-change : (u : Update) (s : Box) (c : Command) → AllYes (questionsTo γ (Change u) s c)
-      → MayChange γ u (s .memory) (c .block) (c .now) (c .proof)
-  may-change u s c h =
+  pub upkeep-ready : (k : Kind) (s : Box) (c : Command) → AllYes (questionsTo γ k s c) → UpkeepReady γ s (c .now) (c .answer)
+  upkeep-ready k s c h = record { box = valid-box k s c h; time = passed σ k s c h .early; answer-size = passed σ k s c h .answer }
+
+  pub restart-ready : (s : Box) (c : Command) → AllYes (questionsTo γ Restart s c) → RestartReady γ (s .memory) (c .now) (c .answer)
+  restart-ready s c h = record { memory = h .0; time = passed σ Restart s c h .early; answer-size = passed σ Restart s c h .answer }
+
+  pub change-ready : (u : Update) (s : Box) (c : Command) → AllYes (questionsTo γ (Change u) s c) → ChangeReady γ u s c
+  change-ready u s c h =
       let known = changes σ u s c h in
-      (passed σ (Change u) s c h .early, (known .proof, (known .unexhausted, known .within)))
+      let all = passed σ (Change u) s c h in
+      record {
+        box = valid-box (Change u) s c h;
+        block = known .range;
+        content-size = all .content;
+        may = record { time = all .early; proof-size = known .proof; unexhausted = known .unexhausted; limit = known .within };
+        answer-size = all .answer;
+      }
 
   -- an unknown kind is refused
   pub unknown-refused : (s : Box) (c : Command) → AllYes (questionsTo γ Unknown s c) → ⊥

@@ -1,1 +1,2 @@
--- No definitions of its own: the contracts cite those of machine.
+-- What formatting takes for granted; the contracts cite the definitions of machine.
+pub mod Ready

@@ -4,14 +4,14 @@ ghost use Prim.Native.Nat.{_≤_};
 ghost use lib.ListN.{length};
 ghost use Rattle.lockpage.specs.Geometry.{present};
 ghost use Rattle.addressing.specs.Map.{diskSize};
-ghost use Rattle.lockpage.specs.Page.{blankPage};
 ghost use Rattle.machine.specs.Effect.{stored};
 ghost use Rattle.machine.specs.Format.{blankPages};
+ghost use Rattle.controller.specs.Ready.{PagesReady};
 use lockpage::PAGE_SIZE;
 
 // Stores a page on the disk as that of each group.
 fn store_pages(disk: &mut [u8], groups: u32, page: &[u8])
-    requires { ⌜ (length (now disk) ≡ diskSize present groups) × ((groups ≤ present .mostGroups) × (now page ≡ blankPage present)) ⌝ }
+    requires { ⌜ PagesReady present (now disk) groups (now page) ⌝ }
     ensures { λ _. ⌜ now (disk .exit) ≡ stored present (now (disk .entry)) (blankPages present groups) ⌝ }
 {
     let mut g = 0;

@@ -4,12 +4,12 @@ mod blank_pages;
 
 ghost use mathlib.Core.Path.{_≡_};
 ghost use Rattle.lockpage.specs.Geometry.{present};
-ghost use Rattle.machine.specs.Command.{boxOf, commandOf, outcomeOf};
 ghost use Rattle.machine.specs.Question.{questionsTo, firstNo};
 ghost use Rattle.machine.specs.Effect.{effect};
 ghost use Rattle.machine.specs.Step.{accepted, step};
-ghost use Rattle.machine.specs.Format.{formatQuestions, formatOutcomeOf};
+ghost use Rattle.machine.specs.Format.{formatQuestions};
 ghost use Rattle.machine.specs.Format as F;
+ghost use Rattle.machine.specs.Call.{boxAt, commandAt, outcomeAt, formatOutcomeAt};
 use answers::shows;
 use effects::changes;
 use effects::upkeep;
@@ -27,8 +27,10 @@ fn carry_out(
     proof: &[u8],
     answer: &mut [u8],
 )
-    requires { ⌜ firstNo (questionsTo present k (boxOf (now memory) (now disk)) (commandOf 0 block time 0 (now content) (now proof) (now answer))) ≡ 0 ⌝ }
-    ensures { λ _. ⌜ outcomeOf 0 (now (memory .exit)) (now (disk .exit)) (now (answer .exit)) ≡ accepted present (λ s. effect present k s (commandOf 0 block time 0 (now (content .entry)) (now (proof .entry)) (now (answer .entry)))) (boxOf (now (memory .entry)) (now (disk .entry))) time ⌝ }
+    requires { ⌜ firstNo (questionsTo present k (boxAt memory disk) (commandAt 0 block time 0 content proof answer)) ≡ 0 ⌝ }
+    ensures { λ _. ⌜ outcomeAt 0 (memory .exit) (disk .exit) (answer .exit)
+        ≡ accepted present (λ s. effect present k s (commandAt 0 block time 0 (content .entry) (proof .entry) (answer .entry)))
+        (boxAt (memory .entry) (disk .entry)) time ⌝ }
 {
     match k {
         Kind::Read => shows::read(memory, disk, block, time, answer),
@@ -55,7 +57,9 @@ pub fn command(
     proof: &[u8],
     answer: &mut [u8],
 ) -> u32
-    ensures { λ r. ⌜ outcomeOf r (now (memory .exit)) (now (disk .exit)) (now (answer .exit)) ≡ step present (boxOf (now (memory .entry)) (now (disk .entry))) (commandOf kind block time value (now (content .entry)) (now (proof .entry)) (now (answer .entry))) ⌝ }
+    ensures { λ r. ⌜ outcomeAt r (memory .exit) (disk .exit) (answer .exit)
+        ≡ step present (boxAt (memory .entry) (disk .entry))
+        (commandAt kind block time value (content .entry) (proof .entry) (answer .entry)) ⌝ }
 {
     let k = arguments::kinds::kind_numbered(kind, value);
     let number = questions::refusal(memory, disk, k, block, time, content, proof, answer);
@@ -68,7 +72,7 @@ pub fn command(
 
 // The number of the first question that says no to formatting, or 0: the groups and the memory's size, the disk, the salt.
 fn format_refusal(memory: &[u8], disk: &[u8], groups: u32, salt: &[u8]) -> u32
-    ensures { λ r. ⌜ r ≡ firstNo (formatQuestions present (boxOf (now (memory .entry)) (now (disk .entry))) groups (now (salt .entry))) ⌝ }
+    ensures { λ r. ⌜ r ≡ firstNo (formatQuestions present (boxAt (memory .entry) (disk .entry)) groups (now (salt .entry))) ⌝ }
 {
     if groups < 1 {
         return machine::MEMORY_INVALID;
@@ -90,7 +94,8 @@ fn format_refusal(memory: &[u8], disk: &[u8], groups: u32, salt: &[u8]) -> u32
 
 // Formats a box: its number; where that is not 0, no byte is changed.
 pub fn format(memory: &mut [u8], disk: &mut [u8], groups: u32, salt: &[u8]) -> u32
-    ensures { λ r. ⌜ formatOutcomeOf r (now (memory .exit)) (now (disk .exit)) ≡ F.format present (boxOf (now (memory .entry)) (now (disk .entry))) groups (now (salt .entry)) ⌝ }
+    ensures { λ r. ⌜ formatOutcomeAt r (memory .exit) (disk .exit)
+        ≡ F.format present (boxAt (memory .entry) (disk .entry)) groups (now (salt .entry)) ⌝ }
 {
     let refusal = format_refusal(memory, disk, groups, salt);
     if refusal != machine::ACCEPTED {

@@ -3,15 +3,15 @@ ghost use mathlib.Core.Path.{_≡_};
 ghost use Prim.Native.Nat.{_<_};
 ghost use lib.ListN.{length};
 ghost use Rattle.lockpage.specs.Geometry.{present};
-ghost use Rattle.lockpage.specs.Size.{blockSize};
 ghost use Rattle.lockpage.specs.Page.{entryAt};
-ghost use Rattle.addressing.specs.Map.{groupBlocks, groupSize, pagePlace};
+ghost use Rattle.addressing.specs.Map.{groupSize, pagePlace};
 ghost use Rattle.disk.specs.Disk.{block, withBlock};
+ghost use Rattle.disk.specs.Ready.{PlaceReady};
 use lockpage::Entry;
 
 // Copies the block at a place into out.
 pub fn read_block(group: &[u8], place: usize, out: &mut [u8])
-    requires { ⌜ (place < groupBlocks present) × ((length (now group) ≡ groupSize present) × (length (now out) ≡ blockSize present)) ⌝ }
+    requires { ⌜ PlaceReady present (now group) place (now out) ⌝ }
     ensures { λ _. ⌜ now (out .exit) ≡ block present (now (group .entry)) place ⌝ }
 {
     let from = addressing::block_start(place);
@@ -20,28 +20,12 @@ pub fn read_block(group: &[u8], place: usize, out: &mut [u8])
 
 // Stores the block at a place: its part of the extent is lent on to be written.
 pub fn store_block(group: &mut [u8], place: usize, content: &[u8])
-    requires { ⌜ (place < groupBlocks present) × ((length (now group) ≡ groupSize present) × (length (now content) ≡ blockSize present)) ⌝ }
+    requires { ⌜ PlaceReady present (now group) place (now content) ⌝ }
     ensures { λ _. ⌜ now (group .exit) ≡ withBlock present (now (group .entry)) place (now (content .entry)) ⌝ }
 {
     let from = addressing::block_start(place);
     let to = from + addressing::BLOCK_SIZE;
     octets::copy(content, 0, &mut group[from..to], 0, addressing::BLOCK_SIZE);
-}
-
-// Copies the page into out.
-pub fn read_page(group: &[u8], out: &mut [u8])
-    requires { ⌜ (length (now group) ≡ groupSize present) × (length (now out) ≡ blockSize present) ⌝ }
-    ensures { λ _. ⌜ now (out .exit) ≡ block present (now (group .entry)) (pagePlace present) ⌝ }
-{
-    read_block(group, addressing::PAGE_PLACE, out);
-}
-
-// Stores the page.
-pub fn store_page(group: &mut [u8], page: &[u8])
-    requires { ⌜ (length (now group) ≡ groupSize present) × (length (now page) ≡ blockSize present) ⌝ }
-    ensures { λ _. ⌜ now (group .exit) ≡ withBlock present (now (group .entry)) (pagePlace present) (now (page .entry)) ⌝ }
-{
-    store_block(group, addressing::PAGE_PLACE, page);
 }
 
 // Entry i of the page.

@@ -1,17 +1,14 @@
 -- What the code does with the held page, in the definitions' words: it goes to the disk, stays or is lost. Assumes nothing.
-use mathlib.Core.Path.{_≡_, ap, ap₂, sym, _∙_}
-use mathlib.Core.List.{List, _++_}
-use Prim.Native.Nat.{ℕ, _+_, _-_, _≤_, _<_}
+use mathlib.Core.Path.{_≡_, ap, ap₂, sym, subst, _∙_}
+use mathlib.Core.List.{List}
+use Prim.Native.Nat.{ℕ, _+_, _≤_, _<_}
 use native.Mathlib.Omega.{arith}
-use lib.ListN.{length, take, drop}
+use lib.ListN.{length}
 use Rattle.lockpage.specs.Geometry.{Geometry, Proper}
-use Rattle.lockpage.specs.Size.{blockSize}
-use Rattle.addressing.specs.Map.{groupSize, diskSize, pagePlace, pageBlock, groupStart, blockStart}
-use Rattle.addressing.proofs.MapLaw.{pageBlock-place, groupStart-below}
-use Rattle.disk.specs.Disk.{withBlock}
+use Rattle.lockpage.specs.Size.{pageSize}
+use Rattle.addressing.specs.Map.{diskSize, pageBlock}
+use Rattle.disk.specs.Disk.{withBlock, HasGroup}
 use Rattle.disk.proofs.DiskLaw.{hasGroup}
-use Rattle.disk.proofs.LentLaw.{block-lent, block-stored}
-use Rattle.memory.specs.Layout.{memorySize}
 use Rattle.memory.specs.Memory.{count, groups, held, none, heldPage, withCount, holdingNone}
 use Rattle.memory.proofs.FieldLaw.{heldPage-length}
 use Rattle.validity.specs.Valid.{countLimit}
@@ -21,12 +18,6 @@ use Rattle.machine.proofs.EffectLaw.{put-none, put-some, evict-same, evict-othe
 
 -- γ is any proper geometry
 module _ {γ : Geometry} (σ : Proper γ) where
-  -- the page's part of a group's extent, lent and come back as the held page
-  pub page-put : (group m r : List ℕ) (from : ℕ) → length m ≡ memorySize γ → from ≡ blockStart γ (pagePlace γ) → r ≡ heldPage γ m
-      → take from group ++ (r ++ drop (from + blockSize γ - from) (drop from group)) ≡ withBlock γ group (pagePlace γ) (heldPage γ m)
-  page-put group m r from l ef er =
-      block-lent σ group r (pagePlace γ) from (ap length er ∙ heldPage-length σ m l) ef ∙ ap (withBlock γ group (pagePlace γ)) er
-
   -- ---- it stays
 
   -- h is the held group as it was read
@@ -54,22 +45,19 @@ module _ {γ : Geometry} (σ : Proper γ) where
       pub held-few : h < γ .mostGroups
       held-few = omega (arith, v .group other, v .most)
 
-      module _ (disk : List ℕ) (size : length disk ≡ diskSize γ (groups γ m)) (from : ℕ) (ef : from ≡ groupStart γ h) where
-        at : from ≡ groupStart γ (held γ m)
-        at = ef ∙ ap (groupStart γ) eh
+      -- its page stored on the disk, page being the held one
+      module _ (disk page : List ℕ) (size : length disk ≡ diskSize γ (groups γ m)) (ep : page ≡ heldPage γ m) where
+        pub held-has : HasGroup γ disk h
+        held-has = subst (HasGroup γ disk) (sym eh) (hasGroup σ disk (groups γ m) (held γ m) size (v .group other))
 
-        -- its group's end
-        pub held-end : from + groupSize γ ≤ length disk
-        held-end = omega (arith, at, groupStart-below σ (groups γ m) (held γ m) (v .group other))
+        pub held-size : length page ≡ pageSize γ
+        held-size = ap length ep ∙ heldPage-length σ m (v .size)
 
-        -- its group's extent, lent and come back with it
-        pub held-put : (r : List ℕ) → r ≡ withBlock γ (take (from + groupSize γ - from) (drop from disk)) (pagePlace γ) (heldPage γ m)
-            → take from disk ++ (r ++ drop (from + groupSize γ - from) (drop from disk)) ≡ stored γ disk (putHeld γ m)
+        pub held-put : (r : List ℕ) → r ≡ withBlock γ disk (pageBlock γ h) page → r ≡ stored γ disk (putHeld γ m)
         unfolding stored
         held-put r er =
-            block-stored σ disk (heldPage γ m) r (held γ m) from (pagePlace γ) (pageBlock γ (held γ m))
-            (hasGroup σ disk (groups γ m) (held γ m) size (v .group other)) (omega arith) at (pageBlock-place σ (held γ m))
-            (heldPage-length σ m (v .size)) er
+            er
+            ∙ ap₂ (λ (g : ℕ) (p : List ℕ). withBlock γ disk (pageBlock γ g) p) eh ep
             ∙ sym (ap (stored γ disk) (put-some σ m other))
 
       -- its group's count can rise

@@ -1,1 +1,2 @@
--- No definitions of its own: the contracts cite those of machine and answers.
+-- What the effects of commands take for granted.
+pub mod Ready

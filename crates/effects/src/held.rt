@@ -1,45 +1,32 @@
 // The held page leaves the memory: for the disk, or for good.
 ghost use mathlib.Core.Path.{_≡_};
 ghost use mathlib.Core.Bool.{true};
-ghost use lib.ListN.{length};
 ghost use Rattle.lockpage.specs.Geometry.{present};
-ghost use Rattle.addressing.specs.Map.{groupSize, pagePlace};
-ghost use Rattle.memory.specs.Layout.{memorySize};
-ghost use Rattle.memory.specs.Memory.{heldPage};
-ghost use Rattle.disk.specs.Disk.{withBlock};
 ghost use Rattle.validity.specs.Valid.{valid};
 ghost use Rattle.machine.specs.Effect.{stored, putHeld, restartedMemory};
 ghost use Rattle.machine.specs.Effect as E;
-ghost use Rattle.answers.specs.Ready.{Sound};
+ghost use Rattle.machine.specs.Call.{boxAt};
+ghost use Rattle.machine.specs.Claims.{ValidBox};
+use lockpage::PAGE_SIZE;
 use memory::layout::NONE;
-
-// Puts the held page into a group's extent of the disk: the page's part in its middle is lent on to be written.
-fn put_page(group: &mut [u8], memory: &[u8])
-    requires { ⌜ (length (now group) ≡ groupSize present) × (length (now memory) ≡ memorySize present) ⌝ }
-    ensures { λ _. ⌜ now (group .exit) ≡ withBlock present (now (group .entry)) (pagePlace present) (heldPage present (now (memory .entry))) ⌝ }
-{
-    let from = addressing::block_start(addressing::PAGE_PLACE);
-    let to = from + addressing::BLOCK_SIZE;
-    held_page::copy_page(memory, &mut group[from..to]);
-}
 
 // Puts the held page, if any, on the disk.
 pub(crate) fn put_held(memory: &[u8], disk: &mut [u8])
-    requires { ⌜ Sound present (now memory) (now disk) ⌝ }
+    requires { ⌜ ValidBox present (boxAt memory disk) ⌝ }
     ensures { λ _. ⌜ now (disk .exit) ≡ stored present (now (disk .entry)) (putHeld present (now (memory .entry))) ⌝ }
 {
     let held = memory::held(memory);
     if held == NONE as u32 {
         return;
     }
-    let from = addressing::group_start(held);
-    let to = from + addressing::GROUP_SIZE;
-    put_page(&mut disk[from..to], memory);
+    let mut page = [0u8; PAGE_SIZE];
+    held_page::copy_page(memory, &mut page);
+    disk::whole::store_page(disk, held, &page);
 }
 
 // The same, if it is another group's.
 pub(crate) fn evict(memory: &[u8], disk: &mut [u8], group: u32)
-    requires { ⌜ Sound present (now memory) (now disk) ⌝ }
+    requires { ⌜ ValidBox present (boxAt memory disk) ⌝ }
     ensures { λ _. ⌜ now (disk .exit) ≡ stored present (now (disk .entry)) (E.evict present (now (memory .entry)) group) ⌝ }
 {
     if memory::held(memory) == group {

@@ -8,6 +8,7 @@ ghost use Rattle.lockpage.specs.Size.{pageSize};
 ghost use Rattle.lockpage.specs.Page.{entryAt, withEntry};
 ghost use Rattle.memory.specs.Layout.{memorySize};
 ghost use Rattle.memory.specs.Memory.{heldPage, withHeldPage, holding, holdingNone};
+ghost use Rattle.memory.specs.Ready.{HasPage};
 use lockpage::Entry;
 use memory::layout;
 
@@ -49,7 +50,7 @@ pub fn is_zero(memory: &[u8]) -> bool
 
 // Holds a group's page.
 pub fn hold(memory: &mut [u8], group: u32, page: &[u8])
-    requires { ⌜ (length (now memory) ≡ memorySize present) × ((group < present .mostGroups) × (length (now page) ≡ pageSize present)) ⌝ }
+    requires { ⌜ HasPage present (now memory) group (now page) ⌝ }
     ensures { λ _. ⌜ now (memory .exit) ≡ holding present (now (memory .entry)) group (now (page .entry)) ⌝ }
 {
     octets::store_u8(memory, layout::HELD_START, group as u8);

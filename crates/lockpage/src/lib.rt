@@ -4,13 +4,13 @@ pub mod entries;
 pub mod states;
 pub mod updates;
 
-pub const PAGE_SIZE: usize = 512;
-
 pub const WORD_SIZE: usize = 4;
 
 pub const ENTRY_SIZE: usize = 2 * WORD_SIZE;
 
-pub const ENTRIES_PER_PAGE: usize = PAGE_SIZE / ENTRY_SIZE;
+pub const ENTRIES_PER_PAGE: usize = 64;
+
+pub const PAGE_SIZE: usize = ENTRY_SIZE * ENTRIES_PER_PAGE;
 
 // An entry: "a 4-byte word, then a 4-byte stamp".
 pub struct Entry {

@@ -5,6 +5,7 @@ pub mod Question
 pub mod Effect
 pub mod Step
 pub mod Format
+pub mod Call
 pub mod Run
 pub mod Claims
 pub mod After

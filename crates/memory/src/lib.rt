@@ -1,13 +1,13 @@
 // The controller memory: 616 bytes that the caller lends. Its fields but the held page, and the memory of formatting. The
 // contracts cite specs/.
 ghost use mathlib.Core.Path.{_≡_};
-ghost use Prim.Native.Nat.{_<_};
 ghost use lib.ListN.{length};
 ghost use Rattle.octets.specs.Part.{equal};
 ghost use Rattle.lockpage.specs.Geometry.{present};
 ghost use Rattle.memory.specs.Layout.{memorySize, saltSize};
 ghost use Rattle.memory.specs.Memory.{lastTime, withSalt, withCount, withNoCounts, withLastTime, formattedMemory};
 ghost use Rattle.memory.specs.Memory as M;
+ghost use Rattle.memory.specs.Ready.{HasCount, FormatReady};
 
 pub mod layout;
 
@@ -47,7 +47,7 @@ pub fn set_last_time(memory: &mut [u8], time: u32)
 
 // The freshness count of a group.
 pub fn count(memory: &[u8], group: u32) -> u32
-    requires { ⌜ (length (now memory) ≡ memorySize present) × (group < present .mostGroups) ⌝ }
+    requires { ⌜ HasCount present (now memory) group ⌝ }
     ensures { λ r. ⌜ r ≡ M.count (now (memory .entry)) group ⌝ }
 {
     octets::load_u32(memory, layout::count_start(group))
@@ -55,7 +55,7 @@ pub fn count(memory: &[u8], group: u32) -> u32
 
 // Sets the freshness count of a group.
 pub fn set_count(memory: &mut [u8], group: u32, n: u32)
-    requires { ⌜ (length (now memory) ≡ memorySize present) × (group < present .mostGroups) ⌝ }
+    requires { ⌜ HasCount present (now memory) group ⌝ }
     ensures { λ _. ⌜ now (memory .exit) ≡ withCount (now (memory .entry)) group n ⌝ }
 {
     octets::store_u32(memory, layout::count_start(group), n);
@@ -101,7 +101,7 @@ pub fn set_salt(memory: &mut [u8], salt: &[u8])
 
 // Makes the memory that of a box just formatted.
 pub fn format(memory: &mut [u8], groups: u32, salt: &[u8])
-    requires { ⌜ (length (now memory) ≡ memorySize present) × ((groups < 256) × (length (now salt) ≡ saltSize)) ⌝ }
+    requires { ⌜ FormatReady present (now memory) groups (now salt) ⌝ }
     ensures { λ _. ⌜ now (memory .exit) ≡ formattedMemory present groups (now (salt .entry)) ⌝ }
 {
     octets::fill(memory, 0, layout::MEMORY_SIZE, 0);

@@ -43,7 +43,7 @@ module _ (γ : Geometry) where
       ∷ []
 
   -- the first six have yes
-  pub record Formed (k : Kind) (s : Box) (c : Command) : Type 0 where
+  pub record FirstSix (k : Kind) (s : Box) (c : Command) : Type 0 where
     pub memory : valid γ (s .memory) ≡ true
     pub yes-arguments : AllYes (arguments k s c)
 
@@ -84,14 +84,14 @@ module _ {γ : Geometry} (σ : Proper γ) where
 
     -- n is the number that the next five gave
     module _ (v : not r ≡ false) (n : ℕ) (en : n ≡ firstNo (arguments γ k s c)) where
-      pub form-refused : (n ≡ 0 → ⊥) → n ≡ firstNo (questionsTo γ k s c)
-      form-refused h =
+      pub arguments-refused : (n ≡ 0 → ⊥) → n ≡ firstNo (questionsTo γ k s c)
+      arguments-refused h =
           en
           ∙ sym (ends (arguments γ k s c) (rest γ k s c) (λ z. h (en ∙ z)))
           ∙ goes-on (question1 γ (s .memory)) (arguments γ k s c ++ rest γ k s c) r e v
 
-      pub formed : n ≡ 0 → Formed γ k s c
-      formed z =
+      pub first-six : n ≡ 0 → FirstSix γ k s c
+      first-six z =
           record {
             memory = sym e ∙ eq-true-of-not-eq-false' v;
             yes-arguments = accepted-yes 6 (arguments γ k s c) (arguments-numbered k s c) (sym en ∙ z);
@@ -99,7 +99,7 @@ module _ {γ : Geometry} (σ : Proper γ) where
 
   -- ---- what is left, by kind
 
-  module _ (k : Kind) (s : Box) (c : Command) (h : Formed γ k s c) where
+  module _ (k : Kind) (s : Box) (c : Command) (h : FirstSix γ k s c) where
     to-rest : (j : Kind) → k ≡ j → firstNo (rest γ j s c) ≡ firstNo (questionsTo γ k s c)
     to-rest j ej =
         ap (λ (i : Kind). firstNo (rest γ i s c)) (sym ej)

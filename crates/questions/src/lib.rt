@@ -7,7 +7,7 @@ ghost use mathlib.Core.List.{[], _∷_};
 ghost use lib.ListN.{length};
 ghost use Rattle.lockpage.specs.Geometry.{present};
 ghost use Rattle.memory.specs.Layout.{memorySize};
-ghost use Rattle.machine.specs.Command.{boxOf, commandOf};
+ghost use Rattle.machine.specs.Call.{boxAt, commandAt};
 ghost use Rattle.machine.specs.Question.{question11, questionsTo, firstNo};
 use machine::Kind;
 
@@ -34,7 +34,8 @@ pub fn refusal(
     proof: &[u8],
     answer: &[u8],
 ) -> u32
-    ensures { λ r. ⌜ r ≡ firstNo (questionsTo present k (boxOf (now (memory .entry)) (now (disk .entry))) (commandOf 0 block time 0 (now (content .entry)) (now (proof .entry)) (now (answer .entry)))) ⌝ }
+    ensures { λ r. ⌜ r ≡ firstNo (questionsTo present k (boxAt (memory .entry) (disk .entry))
+        (commandAt 0 block time 0 (content .entry) (proof .entry) (answer .entry))) ⌝ }
 {
     if !validity::valid(memory) {
         return machine::MEMORY_INVALID;

@@ -6,7 +6,7 @@ mod texts;
 ghost use mathlib.Core.Path.{_≡_};
 ghost use Prim.Native.Nat.{_≤_};
 ghost use lib.ListN.{length};
-ghost use Rattle.machine.specs.Command.{boxOf};
+ghost use Rattle.machine.specs.Call.{boxAt};
 ghost use Rattle.script_printout.specs.Printout.{scriptBox};
 ghost use Rattle.script_printout.specs.Reader.{begun, fedOf};
 ghost use Rattle.script_printout.specs.Reader as R;
@@ -26,7 +26,7 @@ pub struct Fed {
 
 // Formats the box of a script, one group with a zero salt, and answers the reader of its first byte.
 pub fn begin(memory: &mut [u8; MEMORY_SIZE], disk: &mut [u8; GROUP_SIZE]) -> Reader
-    ensures { λ r. ⌜ (r ≡ begun) × (boxOf (now (memory .exit)) (now (disk .exit)) ≡ scriptBox (boxOf (now (memory .entry)) (now (disk .entry)))) ⌝ }
+    ensures { λ r. ⌜ (r ≡ begun) × (boxAt (memory .exit) (disk .exit) ≡ scriptBox (boxAt (memory .entry) (disk .entry))) ⌝ }
 {
     let salt = [0u8; SALT_SIZE];
     controller::format(memory, disk, 1, &salt);
@@ -45,7 +45,9 @@ pub fn feed(
     piece: &[u8],
     out: &mut [u8],
 ) -> Fed
-    ensures { λ r. ⌜ (fedOf (r .taken) (r .progress) (boxOf (now (memory .exit)) (now (disk .exit))) (now (out .exit)) ≡ R.fed reader (boxOf (now (memory .entry)) (now (disk .entry))) (now (piece .entry)) (now (out .entry))) × (r .progress .end ≤ length (now (out .entry))) ⌝ }
+    ensures { λ r. ⌜ (fedOf (r .taken) (r .progress) (boxAt (memory .exit) (disk .exit)) (now (out .exit))
+        ≡ R.fed reader (boxAt (memory .entry) (disk .entry)) (now (piece .entry)) (now (out .entry)))
+        × (r .progress .end ≤ length (now (out .entry))) ⌝ }
 {
     if out.len() / MOST_PRINTED < piece.len() {
         return Fed {
@@ -78,7 +80,9 @@ pub fn finish(
     disk: &mut [u8; GROUP_SIZE],
     out: &mut [u8],
 ) -> Fed
-    ensures { λ r. ⌜ (fedOf (r .taken) (r .progress) (boxOf (now (memory .exit)) (now (disk .exit))) (now (out .exit)) ≡ R.finished reader (boxOf (now (memory .entry)) (now (disk .entry))) (now (out .entry))) × (r .progress .end ≤ length (now (out .entry))) ⌝ }
+    ensures { λ r. ⌜ (fedOf (r .taken) (r .progress) (boxAt (memory .exit) (disk .exit)) (now (out .exit))
+        ≡ R.finished reader (boxAt (memory .entry) (disk .entry)) (now (out .entry)))
+        × (r .progress .end ≤ length (now (out .entry))) ⌝ }
 {
     if out.len() < MOST_PRINTED {
         return Fed {

@@ -2,7 +2,7 @@
 ghost use mathlib.Core.Path.{_≡_};
 ghost use Prim.Native.Nat.{_+_, _≤_};
 ghost use lib.ListN.{length};
-ghost use Rattle.machine.specs.Command.{boxOf};
+ghost use Rattle.machine.specs.Call.{boxAt};
 ghost use Rattle.script_answers.specs.Answer.{mostPrinted};
 ghost use Rattle.script_printout.specs.Reader.{nextNumber, readerBehind, stopped, headerEnd, headerByte, lineEnd, bodyByte, byteRead, bodyEnd, inputEnd, OnEveryBox, placedOf, placed};
 use crate::texts;
@@ -98,7 +98,9 @@ pub(crate) fn end_line(
     at: usize,
 ) -> Progress
     requires { ⌜ at + mostPrinted ≤ length (now out) ⌝ }
-    ensures { λ r. ⌜ (placedOf r (boxOf (now (memory .exit)) (now (disk .exit))) (now (out .exit)) ≡ placed (now (out .entry)) at (lineEnd number line (boxOf (now (memory .entry)) (now (disk .entry))))) × (r .end ≤ at + mostPrinted) ⌝ }
+    ensures { λ r. ⌜ (placedOf r (boxAt (memory .exit) (disk .exit)) (now (out .exit))
+        ≡ placed (now (out .entry)) at (lineEnd number line (boxAt (memory .entry) (disk .entry))))
+        × (r .end ≤ at + mostPrinted) ⌝ }
 {
     match script_lines::judge(line) {
         Judged::Right(v) => {
@@ -124,7 +126,9 @@ fn read_body(
     at: usize,
 ) -> Progress
     requires { ⌜ at + mostPrinted ≤ length (now out) ⌝ }
-    ensures { λ r. ⌜ (placedOf r (boxOf (now (memory .exit)) (now (disk .exit))) (now (out .exit)) ≡ placed (now (out .entry)) at (bodyByte number line (boxOf (now (memory .entry)) (now (disk .entry))) byte)) × (r .end ≤ at + mostPrinted) ⌝ }
+    ensures { λ r. ⌜ (placedOf r (boxAt (memory .exit) (disk .exit)) (now (out .exit))
+        ≡ placed (now (out .entry)) at (bodyByte number line (boxAt (memory .entry) (disk .entry)) byte))
+        × (r .end ≤ at + mostPrinted) ⌝ }
 {
     if byte == NEWLINE {
         return end_line(number, line, memory, disk, out, at);
@@ -151,7 +155,9 @@ pub(crate) fn read_byte(
     at: usize,
 ) -> Progress
     requires { ⌜ at + mostPrinted ≤ length (now out) ⌝ }
-    ensures { λ r. ⌜ (placedOf r (boxOf (now (memory .exit)) (now (disk .exit))) (now (out .exit)) ≡ placed (now (out .entry)) at (byteRead reader (boxOf (now (memory .entry)) (now (disk .entry))) byte)) × (r .end ≤ at + mostPrinted) ⌝ }
+    ensures { λ r. ⌜ (placedOf r (boxAt (memory .exit) (disk .exit)) (now (out .exit))
+        ≡ placed (now (out .entry)) at (byteRead reader (boxAt (memory .entry) (disk .entry)) byte))
+        × (r .end ≤ at + mostPrinted) ⌝ }
 {
     let number = reader.number;
     let stage = reader.stage;
@@ -174,7 +180,9 @@ fn end_body(
     out: &mut [u8],
 ) -> Progress
     requires { ⌜ mostPrinted ≤ length (now out) ⌝ }
-    ensures { λ r. ⌜ (placedOf r (boxOf (now (memory .exit)) (now (disk .exit))) (now (out .exit)) ≡ placed (now (out .entry)) 0 (bodyEnd reader line (boxOf (now (memory .entry)) (now (disk .entry))))) × (r .end ≤ mostPrinted) ⌝ }
+    ensures { λ r. ⌜ (placedOf r (boxAt (memory .exit) (disk .exit)) (now (out .exit))
+        ≡ placed (now (out .entry)) 0 (bodyEnd reader line (boxAt (memory .entry) (disk .entry))))
+        × (r .end ≤ mostPrinted) ⌝ }
 {
     if script_lines::is_blank(line) {
         return Progress {
@@ -193,7 +201,9 @@ pub(crate) fn end_input(
     out: &mut [u8],
 ) -> Progress
     requires { ⌜ mostPrinted ≤ length (now out) ⌝ }
-    ensures { λ r. ⌜ (placedOf r (boxOf (now (memory .exit)) (now (disk .exit))) (now (out .exit)) ≡ placed (now (out .entry)) 0 (inputEnd reader (boxOf (now (memory .entry)) (now (disk .entry))))) × (r .end ≤ mostPrinted) ⌝ }
+    ensures { λ r. ⌜ (placedOf r (boxAt (memory .exit) (disk .exit)) (now (out .exit))
+        ≡ placed (now (out .entry)) 0 (inputEnd reader (boxAt (memory .entry) (disk .entry))))
+        × (r .end ≤ mostPrinted) ⌝ }
 {
     let number = reader.number;
     let stage = reader.stage;

@@ -3,8 +3,9 @@ pub mod printing;
 
 ghost use mathlib.Core.Path.{_≡_};
 ghost use Rattle.lockpage.specs.Geometry.{present};
-ghost use Rattle.machine.specs.Command.{boxOf, commandOf};
+ghost use Rattle.machine.specs.Command.{commandOf};
 ghost use Rattle.machine.specs.Step.{step};
+ghost use Rattle.machine.specs.Call.{boxAt};
 ghost use Rattle.script_answers.specs.Answer.{buffer, pageGot, ranOf, ranWith, ranLine};
 use addressing::BLOCK_SIZE;
 use addressing::GROUP_SIZE;
@@ -35,7 +36,9 @@ fn send(
     content: &[u8],
     proof: &[u8],
 ) -> Shown
-    ensures { λ r. ⌜ ranOf (now (memory .exit)) (now (disk .exit)) r ≡ ranWith (v .kind) (step present (boxOf (now (memory .entry)) (now (disk .entry))) (commandOf (v .kind) (v .block) (v .time) (v .value) (now (content .entry)) (now (proof .entry)) buffer)) ⌝ }
+    ensures { λ r. ⌜ ranOf (now (memory .exit)) (now (disk .exit)) r
+        ≡ ranWith (v .kind) (step present (boxAt (memory .entry) (disk .entry))
+        (commandOf (v .kind) (v .block) (v .time) (v .value) (now (content .entry)) (now (proof .entry)) buffer)) ⌝ }
 {
     let mut answer = [0u8; ANSWER_SIZE];
     let number = controller::command(
@@ -79,7 +82,8 @@ fn get_page(
     page: &mut [u8; ANSWER_SIZE],
 )
     requires { ⌜ now page ≡ buffer ⌝ }
-    ensures { λ _. ⌜ (boxOf (now (memory .exit)) (now (disk .exit)) ≡ pageGot (boxOf (now (memory .entry)) (now (disk .entry))) .box) × (now (page .exit) ≡ pageGot (boxOf (now (memory .entry)) (now (disk .entry))) .answer) ⌝ }
+    ensures { λ _. ⌜ (boxAt (memory .exit) (disk .exit) ≡ pageGot (boxAt (memory .entry) (disk .entry)) .box)
+        × (now (page .exit) ≡ pageGot (boxAt (memory .entry) (disk .entry)) .answer) ⌝ }
 {
     let time = memory::last_time(memory);
     controller::command(memory, disk, PAGE_KIND, 0, time, 0, b"", b"", page);
@@ -87,7 +91,7 @@ fn get_page(
 
 // Runs a line's command: a write's data and a new salt are of value mod 256, and kinds 4 to 6 bring the page that it gets first.
 pub fn run(memory: &mut [u8; MEMORY_SIZE], disk: &mut [u8; GROUP_SIZE], v: Values) -> Shown
-    ensures { λ r. ⌜ ranOf (now (memory .exit)) (now (disk .exit)) r ≡ ranLine (boxOf (now (memory .entry)) (now (disk .entry))) v ⌝ }
+    ensures { λ r. ⌜ ranOf (now (memory .exit)) (now (disk .exit)) r ≡ ranLine (boxAt (memory .entry) (disk .entry)) v ⌝ }
 {
     let k = kinds::kind_numbered(v.kind, v.value);
     let content = [(v.value % 256) as u8; BLOCK_SIZE];

@@ -129,9 +129,9 @@ placed out at p = record { reader = p .reader; box = p .box; out = replaced out 
 
 -- where a step leaves the box alone, its placing is the same on every box
 abbrev pub OnEveryBox : (Box → Printing) → List ℕ → ℕ → Progress → List ℕ → Type 0
-OnEveryBox step out at p prefixed = (s : Box) → placedOf p s prefixed ≡ placed out at (step s)
+OnEveryBox step out at p out' = (s : Box) → placedOf p s out' ≡ placed out at (step s)
 
--- a call of the library: nothing is read where the buffer has not room for a line at each byte
+-- a call of the library: nothing is read where the buffer cannot hold a line for each byte
 pub record Fed : Type 0 where
   pub taken : Bool
   pub placed : Placed

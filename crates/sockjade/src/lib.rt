@@ -2,9 +2,9 @@
 // contract fixes the number answered and every byte of each buffer, by specs/.
 ghost use mathlib.Core.Path.{_≡_};
 ghost use Rattle.lockpage.specs.Geometry.{present};
-ghost use Rattle.machine.specs.Command.{boxOf, commandOf, outcomeOf};
 ghost use Rattle.machine.specs.Step.{step};
-ghost use Rattle.machine.specs.Format.{formatOutcomeOf, format};
+ghost use Rattle.machine.specs.Format.{format};
+ghost use Rattle.machine.specs.Call.{boxAt, commandAt, outcomeAt, formatOutcomeAt};
 ghost use Rattle.sockjade.specs.Digest.{digestOutcome, digestCall};
 
 const LONGEST_INPUT: usize = 65536;
@@ -38,7 +38,9 @@ pub extern "C" fn sockjade_command(
     proof: &[u8],
     answer: &mut [u8],
 ) -> u32
-    ensures { λ r. ⌜ outcomeOf r (now (memory .exit)) (now (disk .exit)) (now (answer .exit)) ≡ step present (boxOf (now (memory .entry)) (now (disk .entry))) (commandOf kind block time value (now (content .entry)) (now (proof .entry)) (now (answer .entry))) ⌝ }
+    ensures { λ r. ⌜ outcomeAt r (memory .exit) (disk .exit) (answer .exit)
+        ≡ step present (boxAt (memory .entry) (disk .entry))
+        (commandAt kind block time value (content .entry) (proof .entry) (answer .entry)) ⌝ }
 {
     controller::command(
         memory,
@@ -61,7 +63,8 @@ pub extern "C" fn sockjade_format(
     groups: u32,
     salt: &[u8],
 ) -> u32
-    ensures { λ r. ⌜ formatOutcomeOf r (now (memory .exit)) (now (disk .exit)) ≡ format present (boxOf (now (memory .entry)) (now (disk .entry))) groups (now (salt .entry)) ⌝ }
+    ensures { λ r. ⌜ formatOutcomeAt r (memory .exit) (disk .exit)
+        ≡ format present (boxAt (memory .entry) (disk .entry)) groups (now (salt .entry)) ⌝ }
 {
     controller::format(memory, disk, groups, salt)
 }

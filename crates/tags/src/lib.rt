@@ -1,12 +1,11 @@
 // The tag of a page: made, compared with the one that is brought, and put behind the page in an answer. The contracts
 // cite the definitions of machine.
 ghost use mathlib.Core.Path.{_≡_};
-ghost use Prim.Native.Nat.{_<_};
 ghost use lib.ListN.{length};
 ghost use Rattle.octets.specs.Part.{part, equal};
 ghost use Rattle.lockpage.specs.Geometry.{present};
 ghost use Rattle.lockpage.specs.Size.{pageSize};
-ghost use Rattle.memory.specs.Layout.{memorySize};
+ghost use Rattle.memory.specs.Ready.{HasCount, HasPage};
 ghost use Rattle.machine.specs.Command.{tagSize, proofSize, answerSize, broughtPage, broughtTag};
 ghost use Rattle.machine.specs.Tag.{messageSize, tagMessage, tagged};
 ghost use Rattle.machine.specs.Tag as T;
@@ -28,7 +27,7 @@ const MESSAGE_SIZE: usize = SALT_SIZE + GROUP_NUMBER_SIZE + COUNT_SIZE + PAGE_SI
 
 // Stores the message of a tag: the salt, the group, its count, the page.
 fn store_message(out: &mut [u8], memory: &[u8], group: u32, page: &[u8])
-    requires { ⌜ (length (now out) ≡ messageSize present) × ((length (now memory) ≡ memorySize present) × ((group < present .mostGroups) × (length (now page) ≡ pageSize present))) ⌝ }
+    requires { ⌜ HasPage present (now memory) group (now page) × (length (now out) ≡ messageSize present) ⌝ }
     ensures { λ _. ⌜ now (out .exit) ≡ tagMessage present (now (memory .entry)) group (now (page .entry)) ⌝ }
 {
     memory::copy_salt(memory, &mut out[0..SALT_SIZE]);
@@ -46,7 +45,7 @@ fn store_message(out: &mut [u8], memory: &[u8], group: u32, page: &[u8])
 
 // Fills out with the tag of a group's page.
 fn tag(memory: &[u8], group: u32, page: &[u8], out: &mut [u8])
-    requires { ⌜ (length (now memory) ≡ memorySize present) × ((group < present .mostGroups) × ((length (now page) ≡ pageSize present) × (length (now out) ≡ tagSize))) ⌝ }
+    requires { ⌜ HasPage present (now memory) group (now page) × (length (now out) ≡ tagSize) ⌝ }
     ensures { λ _. ⌜ now (out .exit) ≡ T.tag present (now (memory .entry)) group (now (page .entry)) ⌝ }
 {
     let mut message = [0u8; MESSAGE_SIZE];
@@ -56,7 +55,7 @@ fn tag(memory: &[u8], group: u32, page: &[u8], out: &mut [u8])
 
 // Whether the tag brought is that of the page brought.
 pub fn matches(memory: &[u8], group: u32, proof: &[u8]) -> bool
-    requires { ⌜ (length (now memory) ≡ memorySize present) × ((group < present .mostGroups) × (length (now proof) ≡ proofSize present)) ⌝ }
+    requires { ⌜ HasCount present (now memory) group × (length (now proof) ≡ proofSize present) ⌝ }
     ensures { λ r. ⌜ r ≡ equal (broughtTag present (now (proof .entry))) (T.tag present (now (memory .entry)) group (broughtPage present (now (proof .entry)))) ⌝ }
 {
     let mut own = [0u8; TAG_SIZE];
@@ -66,7 +65,7 @@ pub fn matches(memory: &[u8], group: u32, proof: &[u8]) -> bool
 
 // Stores the tag of the page that stands at the front of the answer behind it.
 pub fn store_tag(memory: &[u8], group: u32, answer: &mut [u8])
-    requires { ⌜ (length (now memory) ≡ memorySize present) × ((group < present .mostGroups) × (length (now answer) ≡ answerSize present)) ⌝ }
+    requires { ⌜ HasCount present (now memory) group × (length (now answer) ≡ answerSize present) ⌝ }
     ensures { λ _. ⌜ now (answer .exit) ≡ tagged present (now (memory .entry)) group (part (now (answer .entry)) 0 (pageSize present)) ⌝ }
 {
     let mut own = [0u8; TAG_SIZE];

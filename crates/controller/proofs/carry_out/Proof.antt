@@ -8,8 +8,8 @@ use Rattle.machine.specs.declared.Kind.the-variants.{Read, Entry, Page, Change,
 use Rattle.machine.specs.Command.{Box, Command, boxOf, commandOf}
 use Rattle.machine.specs.Question.{questionsTo, AllYes}
 use Rattle.machine.specs.Effect.{effect}
-use Rattle.machine.proofs.PassedLaw.{passed, changes}
-use Rattle.controller.proofs.CommandLaw.{all-yes, sound, read-inside, entry-inside, page-inside, may-change, unknown-refused, carried}
+use Rattle.machine.proofs.PassedLaw.{passed}
+use Rattle.controller.proofs.CommandLaw.{all-yes, read-ready, entry-ready, page-ready, upkeep-ready, restart-ready, change-ready, unknown-refused, carried}
 use Rattle.controller.proofs.carry_out.Statement.{statement}
 use Rattle.controller.proofs.carry_out.Tie as tie
 
@@ -31,7 +31,7 @@ read-requires c κs =
     let told = c .before .before .before in
     let start = told .before .before .before .before .before .before .before in
     let h = asked start Read (told .enum-told .given .1) in
-    (sound σ Read (box start) (given start) h, (read-inside σ (box start) (given start) h, passed σ Read (box start) (given start) h .answer))
+    read-ready σ (box start) (given start) h
 
 read : tie.Need-returns
 unfolding effect
@@ -46,7 +46,7 @@ entry-requires c κs =
     let told = c .before .before .before in
     let start = told .before .before .before .before .before .before .before in
     let h = asked start Entry (told .enum-told2 .given .1) in
-    (sound σ Entry (box start) (given start) h, (entry-inside σ (box start) (given start) h, passed σ Entry (box start) (given start) h .answer))
+    entry-ready σ (box start) (given start) h
 
 entry : tie.Need-returns-2
 unfolding effect
@@ -61,7 +61,7 @@ page-requires c κs =
     let told = c .before .before .before in
     let start = told .before .before .before .before .before .before .before in
     let h = asked start Page (told .enum-told3 .given .1) in
-    (sound σ Page (box start) (given start) h, (page-inside σ (box start) (given start) h, passed σ Page (box start) (given start) h .answer))
+    page-ready σ (box start) (given start) h
 
 page : tie.Need-returns-3
 unfolding effect
@@ -76,7 +76,7 @@ sync-requires c κs =
     let told = c .before .before .before in
     let start = told .before .before .before .before .before .before .before in
     let h = asked start Sync (told .enum-told4 .given .1) in
-    (sound σ Sync (box start) (given start) h, (passed σ Sync (box start) (given start) h .early, passed σ Sync (box start) (given start) h .answer))
+    upkeep-ready σ Sync (box start) (given start) h
 
 sync : tie.Need-returns-5
 unfolding effect
@@ -91,7 +91,7 @@ restart-requires c κs =
     let told = c .before .before in
     let start = told .before .before .before .before .before .before .before in
     let h = asked start Restart (told .enum-told5 .given .1) in
-    (h .0, (passed σ Restart (box start) (given start) h .early, passed σ Restart (box start) (given start) h .answer))
+    restart-ready σ (box start) (given start) h
 
 restart : tie.Need-returns-6
 unfolding effect
@@ -106,13 +106,8 @@ new-salt-requires : tie.Need-new-salt-requires
 new-salt-requires c κs =
     let told = c .before .before .before in
     let start = told .before .before .before .before .before .before .before in
-    let h = asked start NewSalt (told .enum-told6 .given .1) in (
-      sound σ NewSalt (box start) (given start) h,
-      (
-        passed σ NewSalt (box start) (given start) h .early,
-        (passed σ NewSalt (box start) (given start) h .content, passed σ NewSalt (box start) (given start) h .answer),
-      ),
-    )
+    let h = asked start NewSalt (told .enum-told6 .given .1) in
+    (upkeep-ready σ NewSalt (box start) (given start) h, passed σ NewSalt (box start) (given start) h .content)
 
 new-salt : tie.Need-returns-7
 unfolding effect
@@ -144,10 +139,7 @@ change-requires c κs =
     let start = told .before .before .before .before .before .before .before in
     let u = told .k .given .0 .0 in
     let h = asked start (Change u) (told .k .given .1) in
-    let known = passed σ (Change u) (box start) (given start) h in (
-      sound σ (Change u) (box start) (given start) h,
-      (changes σ u (box start) (given start) h .range, (known .content, (may-change σ u (box start) (given start) h, known .answer))),
-    )
+    change-ready σ u (box start) (given start) h
 
 change : tie.Need-returns-4
 unfolding effect

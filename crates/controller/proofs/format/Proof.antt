@@ -14,17 +14,17 @@ use Rattle.controller.proofs.format.Tie as tie
 known : (c : tie.Else1)
     → let x = c .before .before .before .before .before .before .before .args in
     Formattable present (boxOf (x .memory .now) (x .disk .now)) (x .groups) (x .salt .now)
-known c = formattable σ _ _ _ (sym (c .before .refusal .ensures) ∙ omega (arith, c .if1 .left))
+known c = formattable σ _ _ _ (sym (c .before .format-refusal .ensures) ∙ omega (arith, c .if1 .left))
 
 refused : tie.Need-returns
 refused c =
     let x = c .before .before .before .before .before .before .before .args in
-    formatting-refused σ (boxOf (x .memory .now) (x .disk .now)) (x .groups) (x .salt .now) _ (c .before .refusal .ensures) (c .if1 .taken)
+    formatting-refused σ (boxOf (x .memory .now) (x .disk .now)) (x .groups) (x .salt .now) _ (c .before .format-refusal .ensures) (c .if1 .taken)
 
 format-requires : tie.Need-format-requires
 format-requires c κs =
     let k = known (c .before) in
-    (k .size, (omega (arith, k .most), k .salt-size))
+    record { size = k .size; groups-byte = omega (arith, k .most); salt-size = k .salt-size }
 
 store-requires : tie.Need-store-blank-pages-requires
 store-requires c κs =
@@ -38,7 +38,7 @@ accepted c =
     let asked = made .before .before in
     let x = asked .before .before .before .before .before .before .before .args in
     formatting-accepted σ (boxOf (x .memory .now) (x .disk .now)) (x .groups) (x .salt .now) _ _
-    (sym (asked .before .refusal .ensures) ∙ omega (arith, asked .if1 .left)) (made .format .ensures) (stored .store-blank-pages .ensures)
+    (sym (asked .before .format-refusal .ensures) ∙ omega (arith, asked .if1 .left)) (made .format .ensures) (stored .store-blank-pages .ensures)
 
 pub format-spec : {M : Type 1} → statement M
 format-spec =

@@ -49,5 +49,5 @@ none c =
     (omega (arith, three .before .if2 .left)) (omega (arith, three .if3 .left)) (omega (arith, c .before .if4 .left, sized .disk-size .ensures))
     (omega (arith, c .if5 .left))
 
-pub refusal-spec : {M : Type 1} → statement M
-refusal-spec = tie.close (tie.spec few many sized (λ c κs. search needs) disk salt none)
+pub format-refusal-spec : {M : Type 1} → statement M
+format-refusal-spec = tie.close (tie.spec few many sized (λ c κs. search needs) disk salt none)

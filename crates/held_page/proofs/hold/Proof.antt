@@ -10,7 +10,7 @@ returns c =
     let copied = c .before .before in
     let stored = copied .before .before .before .before in
     let start = stored .before .before .before .before in
-    page-stored σ _ _ _ _ _ (start .pre .1 .1) (stored .store-u8 .ensures) (copied .copy .ensures)
+    page-stored σ _ _ _ _ _ (start .pre .page-size) (stored .store-u8 .ensures) (copied .copy .ensures)
 
 pub hold-spec : {M : Type 1} → statement M
 hold-spec = tie.close (tie.spec (λ c. search needs) (λ c κs. search needs) (λ c κs. search needs) (λ c. search needs) returns)

@@ -12,7 +12,7 @@ returns c =
     let second = third .before .before .before .before in
     let first = second .before .before .before .before in
     let start = first .before .before .before .before in
-    format-stored σ _ _ _ _ _ _ _ (start .pre .0) (first .fill .ensures) (second .set-salt .ensures)
+    format-stored σ _ _ _ _ _ _ _ (start .pre .size) (first .fill .ensures) (second .set-salt .ensures)
     (third .store-u8 .ensures) (last .store-u82 .ensures)
 
 pub format-spec : {M : Type 1} → statement M

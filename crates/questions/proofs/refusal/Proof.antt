@@ -11,7 +11,7 @@ use Rattle.validity.proofs.ValidLaw.{facts}
 use Rattle.machine.specs.declared.Kind.the-variants.{Read, Entry, Page, Sync, Restart, Identify, Unknown}
 use Rattle.machine.specs.Command.{Box, Command, boxOf, commandOf}
 use Rattle.machine.specs.Question.{firstNo}
-use Rattle.questions.proofs.RefusalLaw.{Formed, invalid-refused, form-refused, formed, nothing-left, salt-left, change-left, change-group, change-early, change-proof}
+use Rattle.questions.proofs.RefusalLaw.{FirstSix, invalid-refused, arguments-refused, first-six, nothing-left, salt-left, change-left, change-group, change-early, change-proof}
 use Rattle.questions.proofs.refusal.Statement.{statement}
 use Rattle.questions.proofs.refusal.Tie as tie
 
@@ -37,17 +37,17 @@ arguments : tie.Need-returns-2
 arguments c =
     let first = c .before .before in
     let start = first .before .before .before .before .before .before .before in
-    form-refused σ (start .args .k) (box start) (given start) _ (first .before .valid .ensures) (first .if1 .left) _
+    arguments-refused σ (start .args .k) (box start) (given start) _ (first .before .valid .ensures) (first .if1 .left) _
     (c .before .refusal .ensures) (c .if2 .taken)
 
 -- the first six have yes
 passed : (c : tie.Else2)
     → let start = c .before .before .before .before .before .before .before .before .before in
-    Formed present (start .args .k) (box start) (given start)
+    FirstSix present (start .args .k) (box start) (given start)
 passed c =
     let first = c .before .before in
     let start = first .before .before .before .before .before .before .before in
-    formed σ (start .args .k) (box start) (given start) _ (first .before .valid .ensures) (first .if1 .left) _ (c .before .refusal .ensures)
+    first-six σ (start .args .k) (box start) (given start) _ (first .before .valid .ensures) (first .if1 .left) _ (c .before .refusal .ensures)
     (omega (arith, c .if2 .left))
 
 read : tie.Need-returns-3
@@ -83,7 +83,11 @@ change-requires c κs =
     let second = c .before .before .before in
     let h = passed second in
     let e = c .before .k .given .1 in
-    (size (second .before .before), (change-group σ _ _ _ h _ e, (change-proof σ _ _ _ h _ e, change-early σ _ _ _ h _ e)))
+    record {
+      count = record { size = size (second .before .before); group = change-group σ _ _ _ h _ e };
+      time = change-early σ _ _ _ h _ e;
+      proof-size = change-proof σ _ _ _ h _ e;
+    }
 
 change : tie.Need-returns-6
 change c = change-left σ _ _ _ (passed (c .before .before .before .before)) _ (c .before .before .k .given .1) _ (c .refusal2 .ensures)

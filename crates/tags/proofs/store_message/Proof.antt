@@ -15,9 +15,10 @@ returns c =
     let grouped = counted .before .before .before in
     let salted = grouped .before .before .before .before in
     let start = salted .before .before .before .before .before in
+    let ready = start .pre .0 in
     let out = start .args .out .now in
-    message-built σ _ _ out _ _ _ _ _ _ (start .pre .1 .0) (start .pre .1 .1 .1) (start .pre .0)
-    (lent-filled out _ _ 0 _ (salt-length σ _ (start .pre .1 .0)) (salted .copy-salt .ensures))
+    message-built σ _ _ out _ _ _ _ _ _ (ready .count .size) (ready .page-size) (start .pre .1)
+    (lent-filled out _ _ 0 _ (salt-length σ _ (ready .count .size)) (salted .copy-salt .ensures))
     (grouped .store-u64 .ensures) (counted .count .ensures) (numbered .store-u32 .ensures) (copied .copy .ensures)
 
 pub store-message-spec : {M : Type 1} → statement M

@@ -12,7 +12,7 @@ returns c =
     let copied = c .before .before in
     let made = copied .before .before .before .before in
     let start = made .before .before .before .before .before .before in
-    tag-stored σ _ _ _ _ _ (start .pre .1 .1) (made .tag .ensures) (copied .copy .ensures)
+    tag-stored σ _ _ _ _ _ (start .pre .1) (made .tag .ensures) (copied .copy .ensures)
 
 pub store-tag-spec : {M : Type 1} → statement M
 store-tag-spec =

@@ -10,7 +10,7 @@ use Rattle.answers.proofs.shows.read.Tie as tie
 read-block-requires : tie.Need-read-block-requires
 read-block-requires c κs =
     let start = c .before .before .before .before .before .before .before .before in
-    (hasGroup-of σ _ _ _ (start .pre .0 .1) (start .pre .1 .0), search needs)
+    (hasGroup-of σ _ _ _ (start .pre .box .disk) (start .pre .block), search needs)
 
 returns : tie.Need-returns
 returns c =
@@ -18,11 +18,11 @@ returns c =
     let read = zeroed .before .before .before .before in
     let timed = read .before .before .before .before in
     let start = timed .before .before .before .before .before in
-    read-outcome σ _ _ _ _ (timed .set-last-time .ensures) (start .args .answer .now) _ _ _ (start .pre .0 .1)
-    (start .pre .1 .0) (start .pre .1 .1) (read .read-block .ensures) (zeroed .zero-tail .ensures)
+    read-outcome σ _ _ _ _ (timed .set-last-time .ensures) (start .args .answer .now) _ _ _ (start .pre .box .disk)
+    (start .pre .block) (start .pre .answer-size) (read .read-block .ensures) (zeroed .zero-tail .ensures)
 
 pub read-spec : {M : Type 1} → statement M
 read-spec =
     tie.close
-    (tie.spec (λ c κs. facts σ _ (c .before .before .before .before .pre .0 .0) .size) (λ c. search needs) (λ c. search needs)
+    (tie.spec (λ c κs. facts σ _ (c .before .before .before .before .pre .box .memory) .size) (λ c. search needs) (λ c. search needs)
     (λ c. search needs) read-block-requires (λ c κs. search needs) (λ c. search needs) (λ c. search needs) returns)

@@ -12,7 +12,7 @@ current-entry-requires : tie.Need-current-entry-requires
 current-entry-requires c κs =
     let kept = c .before .before in
     let start = kept .before .before .before .before .before .before in
-    (kept .memory .given ∙ facts σ _ (start .pre .0 .0) .size, hasGroup-of σ _ _ _ (start .pre .0 .1) (start .pre .1 .0))
+    (kept .memory .given ∙ facts σ _ (start .pre .box .memory) .size, hasGroup-of σ _ _ _ (start .pre .box .disk) (start .pre .block))
 
 returns : tie.Need-returns
 returns c =
@@ -24,5 +24,5 @@ returns c =
 pub show-entry-spec : {M : Type 1} → statement M
 show-entry-spec =
     tie.close
-    (tie.spec (λ c κs. facts σ _ (c .before .before .before .before .pre .0 .0) .size) current-entry-requires (λ c κs. search needs)
+    (tie.spec (λ c κs. facts σ _ (c .before .before .before .before .pre .box .memory) .size) current-entry-requires (λ c κs. search needs)
     (λ c. search needs) (λ c. search needs) returns)

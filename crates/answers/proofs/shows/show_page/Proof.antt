@@ -12,17 +12,19 @@ use Rattle.answers.proofs.shows.show_page.Tie as tie
 copy-current-requires : tie.Need-copy-current-requires
 copy-current-requires c κs =
     let kept = c .before .before .before in
-    let start = kept .before .before .before .before .before .before in (
-      kept .memory .given ∙ facts σ _ (start .pre .0 .0) .size,
-      (hasGroup σ _ _ _ (start .pre .0 .1) (start .pre .1 .0), search needs),
-    )
+    let start = kept .before .before .before .before .before .before in
+    record {
+      memory-size = kept .memory .given ∙ facts σ _ (start .pre .box .memory) .size;
+      group = hasGroup σ _ _ _ (start .pre .box .disk) (start .pre .group);
+      page-size = search needs;
+    }
 
 store-tag-requires : tie.Need-store-tag-requires
 store-tag-requires c κs =
     let kept = c .before .before .before .before .before .before .before .before in
     let start = kept .before .before .before .before .before .before in
-    let v = facts σ _ (start .pre .0 .0) in
-    (kept .memory .given ∙ v .size, (omega (arith, v .most, start .pre .1 .0), search needs))
+    let v = facts σ _ (start .pre .box .memory) in
+    (record { size = kept .memory .given ∙ v .size; group = omega (arith, v .most, start .pre .group) }, search needs)
 
 returns : tie.Need-returns
 returns c =
@@ -30,11 +32,11 @@ returns c =
     let copied = tagged .before .before .before .before .before in
     let timed = copied .before .before .before .before .before in
     let start = timed .before .before .before .before .before in
-    page-outcome σ _ _ _ _ (timed .set-last-time .ensures) (start .args .answer .now) _ _ _ (facts σ _ (start .pre .0 .0) .size)
-    (omega (arith, start .fits .time)) (start .pre .0 .1) (start .pre .1 .0) (copied .copy-current .ensures) (tagged .store-tag .ensures)
+    page-outcome σ _ _ _ _ (timed .set-last-time .ensures) (start .args .answer .now) _ _ _ (facts σ _ (start .pre .box .memory) .size)
+    (omega (arith, start .fits .time)) (start .pre .box .disk) (start .pre .group) (copied .copy-current .ensures) (tagged .store-tag .ensures)
 
 pub show-page-spec : {M : Type 1} → statement M
 show-page-spec =
     tie.close
-    (tie.spec (λ c κs. facts σ _ (c .before .before .before .before .pre .0 .0) .size) (λ c. search needs) (λ c. search needs)
+    (tie.spec (λ c κs. facts σ _ (c .before .before .before .before .pre .box .memory) .size) (λ c. search needs) (λ c. search needs)
     (λ c. search needs) copy-current-requires store-tag-requires (λ c. search needs) (λ c. search needs) returns)

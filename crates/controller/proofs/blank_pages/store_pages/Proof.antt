@@ -27,7 +27,7 @@ store-page-requires c κs =
     let loop = test .before in
     let start = loop .before .before .before in (
       hasGroup σ (loop .loop .disk) (start .args .groups) (loop .loop .g) (loop .loop .inv .1 .0) (omega (arith, test .loop-test .taken)),
-      ap length (start .pre .1 .1) ∙ blankPage-length σ,
+      ap length (start .pre .blank) ∙ blankPage-length σ,
     )
 
 loop-again : tie.Need-loop-again Inv-loop μ-loop
@@ -36,7 +36,7 @@ loop-again c =
     let test = stored .before .before in
     let loop = test .before in
     let start = loop .before .before .before in
-    let page = start .pre .1 .1 in (
+    let page = start .pre .blank in (
       omega (arith, test .loop-test .taken),
       (
         page-fits σ _ _ _ _ _ (loop .loop .inv .1 .0) (omega (arith, test .loop-test .taken)) page (stored .store-page .ensures),
@@ -52,5 +52,5 @@ returns c =
 pub store-pages-spec : {M : Type 1} → statement M
 store-pages-spec =
     tie.close
-    (tie.spec Inv-loop μ-loop (λ c. (search needs, (c .before .before .pre .0, pages-start σ _))) store-page-requires (λ c. search needs) (λ c. search needs)
-    loop-again (λ c. c .before .loop .inv .1 .0 ∙ sym (c .before .before .before .before .pre .0)) returns)
+    (tie.spec Inv-loop μ-loop (λ c. (search needs, (c .before .before .pre .disk-size, pages-start σ _))) store-page-requires (λ c. search needs) (λ c. search needs)
+    loop-again (λ c. c .before .loop .inv .1 .0 ∙ sym (c .before .before .before .before .pre .disk-size)) returns)

@@ -10,7 +10,7 @@ use Rattle.disk.proofs.group.read_block.Tie as tie
 copy-requires : tie.Need-copy-requires
 copy-requires c κs =
     let start = c .before .before .before .before in
-    let inside = blockStart-place σ _ (start .pre .0) in
+    let inside = blockStart-place σ _ (start .pre .inside) in
     (omega (arith, inside), omega arith)
 
 returns : tie.Need-returns
@@ -18,8 +18,8 @@ returns c =
     let copied = c .before .before in
     let started = copied .before .before in
     let start = started .before .before .before in
-    let inside = blockStart-place σ _ (start .pre .0) in
-    block-copied σ _ _ _ _ _ (start .pre .1 .1) (omega (arith, inside)) (started .block-start .ensures) (copied .copy .ensures)
+    let inside = blockStart-place σ _ (start .pre .inside) in
+    block-copied σ _ _ _ _ _ (start .pre .block-size) (omega (arith, inside)) (started .block-start .ensures) (copied .copy .ensures)
 
 pub read-block-spec : {M : Type 1} → statement M
 read-block-spec = tie.close (tie.spec (λ c κs. search needs) copy-requires (λ c. search needs) returns)

@@ -15,13 +15,13 @@ use Rattle.disk.proofs.group.store_block.Tie as tie
 ends : (c : tie.After-block-start) → c .block-start .result + blockSize present ≤ length (c .before .before .before .args .group .now)
 ends c =
     let start = c .before .before .before in
-    omega (arith, c .block-start .ensures, start .pre .1 .0, blockStart-place σ _ (start .pre .0))
+    omega (arith, c .block-start .ensures, start .pre .extent-size, blockStart-place σ _ (start .pre .inside))
 
 returns : tie.Need-returns
 returns c =
     let copied = c .before .before in
     let started = copied .before .before in
-    block-filled σ _ _ _ _ _ (started .before .before .before .pre .1 .1) (ends started) (started .block-start .ensures) (copied .copy .ensures)
+    block-filled σ _ _ _ _ _ (started .before .before .before .pre .block-size) (ends started) (started .block-start .ensures) (copied .copy .ensures)
 
 pub store-block-spec : {M : Type 1} → statement M
 store-block-spec =

@@ -10,10 +10,12 @@ read-block-requires : tie.Need-read-block-requires
 read-block-requires c κs =
     let placed = c .before in
     let cut = placed .before in
-    let start = cut .before .before .before .before in (
-      placeOf-in σ _ _ (placed .place-of .ensures),
-      (cut-length σ _ _ _ _ (start .pre .0) (cut .before .group-of .ensures) (cut .extent .ensures), search needs),
-    )
+    let start = cut .before .before .before .before in
+    record {
+      extent-size = cut-length σ _ _ _ _ (start .pre .0) (cut .before .group-of .ensures) (cut .extent .ensures);
+      inside = placeOf-in σ _ _ (placed .place-of .ensures);
+      block-size = start .pre .1;
+    }
 
 returns : tie.Need-returns
 returns c =

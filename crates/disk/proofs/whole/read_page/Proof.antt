@@ -10,17 +10,21 @@ use Rattle.disk.proofs.LentLaw.{cut-length, block-read}
 use Rattle.disk.proofs.whole.read_page.Statement.{statement}
 use Rattle.disk.proofs.whole.read_page.Tie as tie
 
-read-page-requires : tie.Need-read-page-requires
-read-page-requires c κs =
+read-block-requires : tie.Need-read-block-requires
+read-block-requires c κs =
     let start = c .before .before .before .before in
-    (cut-length σ _ _ _ _ (start .pre .0) refl (c .before .extent .ensures), search needs)
+    record {
+      extent-size = cut-length σ _ _ _ _ (start .pre .0) refl (c .before .extent .ensures);
+      inside = omega arith;
+      block-size = start .pre .1;
+    }
 
 returns : tie.Need-returns
 returns c =
     let called = c .before .before in
     let cut = called .before .before in
     block-read σ _ _ _ _ (cut .before .before .before .pre .0) refl (cut .extent .ensures) _ (pagePlace present) _ (omega arith) (pageBlock-place σ _)
-    (called .read-page .ensures)
+    (called .read-block .ensures)
 
 pub read-page-spec : {M : Type 1} → statement M
-read-page-spec = tie.close (tie.spec (λ c κs. search needs) read-page-requires (λ c. search needs) returns)
+read-page-spec = tie.close (tie.spec (λ c κs. search needs) read-block-requires (λ c. search needs) returns)

@@ -18,4 +18,4 @@ other c =
 pub evict-spec : {M : Type 1} → statement M
 evict-spec =
     tie.close
-    (tie.spec (λ c κs. facts σ _ (c .before .before .pre .0) .size) same (λ c κs. search needs) (λ c. search needs) other)
+    (tie.spec (λ c κs. facts σ _ (c .before .before .pre .memory) .size) same (λ c κs. search needs) (λ c. search needs) other)

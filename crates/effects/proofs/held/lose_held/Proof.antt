@@ -29,7 +29,7 @@ set-requires : tie.Need-set-count-requires
 set-requires c κs =
     let tested = c .before .before .before .before .before .before .before in
     let size = facts σ _ (start tested .pre) .size in
-    (search needs, few tested)
+    record { size = search needs; group = few tested }
 
 some : tie.Need-returns-2
 some c =
@@ -44,6 +44,6 @@ pub lose-held-spec : {M : Type 1} → statement M
 lose-held-spec =
     tie.close
     (tie.spec (λ c κs. facts σ _ (c .before .before .pre) .size) (λ c. search needs) (λ c. search needs) none
-    (λ c κs. (facts σ _ (start (c .before) .pre) .size, few (c .before)))
+    (λ c κs. record { size = facts σ _ (start (c .before) .pre) .size; group = few (c .before) })
     (λ c κs. facts σ _ (start (c .before .before .before) .pre) .size)
     (λ c. omega (arith, counted (c .before .before .before .before .before))) set-requires (λ c. search needs) some)

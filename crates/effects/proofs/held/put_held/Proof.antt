@@ -1,48 +1,49 @@
--- `effects::held::put_held` meets its contract: the held group's extent is lent and comes back with the held page. Assumes nothing.
+-- `effects::held::put_held` meets its contract: the held page is copied out and stored as its group's. Assumes nothing.
 use borrow.Author.Needs.{needs}
-use native.Mathlib.Omega.{arith}
-use Prim.Native.Nat.{_+_, _≤_}
-use lib.ListN.{length}
 use Rattle.lockpage.specs.Geometry.{present}
 use Rattle.lockpage.proofs.GeometryLaw.{present-proper as σ}
-use Rattle.addressing.specs.Map.{groupSize}
-use Rattle.validity.proofs.ValidLaw.{facts}
-use Rattle.effects.proofs.HeldLaw.{none-put, held-end, held-put}
+use Rattle.validity.proofs.ValidLaw.{Valid, facts}
+use Rattle.effects.proofs.HeldLaw.{none-put, held-has, held-size, held-put}
 use Rattle.effects.proofs.held.put_held.Statement.{statement}
 use Rattle.effects.proofs.held.put_held.Tie as tie
+
+-- where it starts, once a group is held, and where that is known, once its page is copied
+abbrev start : tie.Else1 → tie.Start
+start c = c .before .before .before .before
+
+abbrev tested : tie.After-copy-page → tie.Else1
+tested c = c .before .before
+
+valid : (c : tie.Else1) → Valid present (start c .args .memory .now)
+valid c = facts σ _ (start c .pre .memory)
 
 none : tie.Need-returns
 none c = none-put σ _ _ (c .before .held .ensures) _ (c .if1 .taken)
 
--- where it starts, once a group is held
-abbrev start : tie.Else1 → tie.Start
-start c = c .before .before .before .before
-
--- the group's end on the disk
-ends : (c : tie.After-group-start) → c .group-start .result + groupSize present ≤ length (start (c .before) .args .disk .now)
-ends c =
-    let tested = c .before in
-    let known = start tested .pre in
-    held-end σ _ _ (tested .before .held .ensures) (facts σ _ (known .0)) (tested .if1 .left) (start tested .args .disk .now) (known .1) _
-    (c .group-start .ensures)
-
-page-requires : tie.Need-put-page-requires
-page-requires c κs =
-    let size = facts σ _ (start (c .before .before) .pre .0) .size in
+copy-page-requires : tie.Need-copy-page-requires
+copy-page-requires c κs =
+    let size = valid (c .before) .size in
     search needs
+
+store-page-requires : tie.Need-store-page-requires
+store-page-requires c κs =
+    let copied = c .before .before .before in
+    let some = tested copied in
+    let disk = start some .args .disk .now in (
+      held-has σ _ _ (some .before .held .ensures) (valid some) (some .if1 .left) disk _ (start some .pre .disk) (copied .copy-page .ensures),
+      held-size σ _ _ (some .before .held .ensures) (valid some) (some .if1 .left) disk _ (start some .pre .disk) (copied .copy-page .ensures),
+    )
 
 some : tie.Need-returns-2
 some c =
-    let put = c .before .before in
-    let started = put .before .before in
-    let tested = started .before in
-    let known = start tested .pre in
-    held-put σ _ _ (tested .before .held .ensures) (facts σ _ (known .0)) (tested .if1 .left) _ (known .1) _ (started .group-start .ensures) _
-    (put .put-page .ensures)
+    let stored = c .before .before in
+    let copied = stored .before .before .before .before in
+    let held = tested copied in
+    held-put σ _ _ (held .before .held .ensures) (valid held) (held .if1 .left) _ _ (start held .pre .disk) (copied .copy-page .ensures) _
+    (stored .store-page .ensures)
 
 pub put-held-spec : {M : Type 1} → statement M
 put-held-spec =
     tie.close
-    (tie.spec (λ c κs. facts σ _ (c .before .before .pre .0) .size) (λ c. search needs) none (λ c κs. search needs)
-    (λ c. omega (arith, ends c)) (λ c. search needs) (λ c. search needs) (λ c. omega (arith, ends c)) page-requires (λ c. search needs)
-    some)
+    (tie.spec (λ c κs. facts σ _ (c .before .before .pre .memory) .size) (λ c. search needs) none (λ c. search needs) copy-page-requires
+    (λ c. search needs) store-page-requires (λ c. search needs) some)

@@ -12,7 +12,7 @@ use Rattle.effects.proofs.upkeep.new_salt.Tie as tie
 
 -- the memory's length at entry
 size : (start : tie.Start) → length (start .args .memory .now) ≡ memorySize present
-size start = facts σ _ (start .pre .0 .0) .size
+size start = facts σ _ (start .pre .0 .box .memory) .size
 
 clear-counts-requires : tie.Need-clear-counts-requires
 clear-counts-requires c κs =
@@ -24,7 +24,7 @@ set-salt-requires c κs =
     let cleared = c .before .before in
     let kept = cleared .before .before .before .before .before .before .before .before in
     let start = kept .before .before .before .before .before .before .before .before .before in
-    (cleared .memory2 .given ∙ kept .memory .given ∙ size start, start .pre .1 .1 .0)
+    (cleared .memory2 .given ∙ kept .memory .given ∙ size start, start .pre .1)
 
 returns : tie.Need-returns
 returns c =

@@ -15,17 +15,17 @@ sound : tie.Need-lose-held-requires
 sound c κs =
     let set = c .before .before .before in
     let known = start set .pre in
-    timed-valid σ _ _ _ (set .set-last-time .ensures) (known .1 .0) (known .0)
+    timed-valid σ _ _ _ (set .set-last-time .ensures) (known .time) (known .memory)
 
 returns : tie.Need-returns
 returns c =
     let zeroed = c .before .before in
     let dropped = zeroed .before .before .before .before in
     let set = dropped .before .before .before .before in
-    lost σ _ _ _ (set .set-last-time .ensures) _ _ (start set .pre .1 .1) (zeroed .zero-tail .ensures) _ (dropped .lose-held .ensures)
+    lost σ _ _ _ (set .set-last-time .ensures) _ _ (start set .pre .answer-size) (zeroed .zero-tail .ensures) _ (dropped .lose-held .ensures)
 
 pub restart-spec : {M : Type 1} → statement M
 restart-spec =
     tie.close
-    (tie.spec (λ c κs. facts σ _ (c .before .before .before .pre .0) .size) sound (λ c κs. search needs) (λ c. search needs)
+    (tie.spec (λ c κs. facts σ _ (c .before .before .before .pre .memory) .size) sound (λ c κs. search needs) (λ c. search needs)
     (λ c. search needs) returns)

@@ -2,7 +2,7 @@
 use borrow.Author.Needs.{needs}
 use Rattle.lockpage.proofs.GeometryLaw.{present-proper as σ}
 use Rattle.validity.proofs.ValidLaw.{facts}
-use Rattle.effects.proofs.TimedLaw.{timed-sound}
+use Rattle.effects.proofs.TimedLaw.{timed-box}
 use Rattle.effects.proofs.UpkeepLaw.{synced}
 use Rattle.effects.proofs.upkeep.sync.Statement.{statement}
 use Rattle.effects.proofs.upkeep.sync.Tie as tie
@@ -15,12 +15,12 @@ sound : tie.Need-put-held-requires
 sound c κs =
     let set = c .before .before .before .before in
     let known = start set .pre in
-    timed-sound σ _ _ _ (set .set-last-time .ensures) (known .1 .0) (start set .args .disk .now) (known .0)
+    timed-box σ _ _ _ (set .set-last-time .ensures) (known .time) (start set .args .disk .now) (known .box)
 
 none-requires : tie.Need-hold-none-requires
 none-requires c κs =
     let put = c .before .before .before in
-    let size = facts σ _ (start (put .before .before .before .before .before) .pre .0 .0) .size in
+    let size = facts σ _ (start (put .before .before .before .before .before) .pre .box .memory) .size in
     search needs
 
 returns : tie.Need-returns
@@ -29,11 +29,11 @@ returns c =
     let dropped = zeroed .before .before .before .before in
     let put = dropped .before .before .before .before in
     let set = put .before .before .before .before .before in
-    synced σ _ _ _ (set .set-last-time .ensures) _ _ (start set .pre .1 .1) (zeroed .zero-tail .ensures) _ _ _ (put .put-held .ensures)
+    synced σ _ _ _ (set .set-last-time .ensures) _ _ (start set .pre .answer-size) (zeroed .zero-tail .ensures) _ _ _ (put .put-held .ensures)
     (dropped .hold-none .ensures)
 
 pub sync-spec : {M : Type 1} → statement M
 sync-spec =
     tie.close
-    (tie.spec (λ c κs. facts σ _ (c .before .before .before .before .pre .0 .0) .size) sound none-requires (λ c κs. search needs)
+    (tie.spec (λ c κs. facts σ _ (c .before .before .before .before .pre .box .memory) .size) sound none-requires (λ c κs. search needs)
     (λ c. search needs) (λ c. search needs) (λ c. search needs) returns)

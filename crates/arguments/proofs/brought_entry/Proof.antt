@@ -1,4 +1,4 @@
--- `questions::change::brought_entry` meets its contract: the page's part is cut out of the proof. Assumes nothing.
+-- `arguments::brought_entry` meets its contract: the page's part is cut out of the proof. Assumes nothing.
 use borrow.Author.Needs.{needs}
 use mathlib.Core.Path.{ap, _∙_}
 use native.Mathlib.Omega.{arith}
@@ -10,8 +10,8 @@ use Rattle.lockpage.proofs.GeometryLaw.{present-proper as σ}
 use Rattle.addressing.specs.Map.{pagePlace}
 use Rattle.addressing.proofs.MapLaw.{placeOf-below}
 use Rattle.machine.specs.Command.{broughtPage}
-use Rattle.questions.proofs.change.brought_entry.Statement.{statement}
-use Rattle.questions.proofs.change.brought_entry.Tie as tie
+use Rattle.arguments.proofs.brought_entry.Statement.{statement}
+use Rattle.arguments.proofs.brought_entry.Tie as tie
 
 load-entry-requires : tie.Need-load-entry-requires
 load-entry-requires c κs =

@@ -1,0 +1,23 @@
+-- A call of the controller: what its references show, at entry or at exit, as a box, a command and an outcome. Assumes nothing: these are
+-- definitions.
+use mathlib.Core.List.{List}
+use Prim.Native.Nat.{ℕ}
+use denote.Ref.{RefT, now}
+use Rattle.machine.specs.Command.{Box, Command, Outcome, boxOf, commandOf, outcomeOf}
+use Rattle.machine.specs.Format.{FormatOutcome, formatOutcomeOf}
+
+-- a reference to a byte slice
+abbrev pub Bytes : Type 0
+Bytes = RefT (List ℕ)
+
+abbrev pub boxAt : Bytes → Bytes → Box
+boxAt memory disk = boxOf (now memory) (now disk)
+
+abbrev pub commandAt : ℕ → ℕ → ℕ → ℕ → Bytes → Bytes → Bytes → Command
+commandAt kind block time value content proof answer = commandOf kind block time value (now content) (now proof) (now answer)
+
+abbrev pub outcomeAt : ℕ → Bytes → Bytes → Bytes → Outcome
+outcomeAt number memory disk answer = outcomeOf number (now memory) (now disk) (now answer)
+
+abbrev pub formatOutcomeAt : ℕ → Bytes → Bytes → FormatOutcome
+formatOutcomeAt number memory disk = formatOutcomeOf number (now memory) (now disk)
