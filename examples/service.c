@@ -108,7 +108,7 @@ static uint32_t command(struct box *box, struct request r, uint8_t answer[SOCKJA
 static void show(const struct box *box, const char *what, uint32_t number, const char *more) {
     static const char *const words[] = {"accepted",          "memory invalid",       "disk size wrong", "kind unknown",
                                         "time out of range", "address out of range", "length wrong",    "tag wrong",
-                                        "count spent",       "state wrong",          "limit exceeded",  "salt unchanged"};
+                                        "count exhausted",   "state wrong",          "limit exceeded",  "salt unchanged"};
     printf("%4" PRIu32 " %s: %" PRIu32 " %s%s\n", box->clock, what, number, words[number], more);
 }
 

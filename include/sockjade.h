@@ -32,7 +32,7 @@ enum {
     SOCKJADE_ADDRESS_OUT_OF_RANGE = 5, /* no such data block; for a page, no such group */
     SOCKJADE_LENGTH_WRONG = 6,         /* data, proof or answer is not of the kind's length; when formatting, the salt */
     SOCKJADE_TAG_WRONG = 7,            /* the tag is not that of the page brought, under the present salt and count */
-    SOCKJADE_COUNT_SPENT = 8,          /* the group's count is spent, until a new salt */
+    SOCKJADE_COUNT_EXHAUSTED = 8,      /* the group's count is exhausted, until a new salt */
     SOCKJADE_STATE_WRONG = 9,          /* write: not free; unfreeze: not frozen; increment: free */
     SOCKJADE_LIMIT_EXCEEDED = 10,      /* a lock above 2,147,483,647 or an expiry above 4,294,967,294 */
     SOCKJADE_SALT_UNCHANGED = 11       /* the new salt is the present one */
