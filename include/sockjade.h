@@ -7,10 +7,16 @@
  * length is 0; the buffers of one call do not overlap; and two calls with the same memory or disk do not run at once. There is
  * no state outside the buffers.
  *
- * What a service sees to, on which the promise hangs: `now` is the box's own clock, never a time that the server sends; a new salt
- * is from the box's own generator; memory and disk as an accepted command leaves them are stored, whole, before its answer leaves the
- * box; and nobody else writes them. A lock outlasts a restart once its page is on the disk, by a sync or because another group's
- * page took its place. examples/service.c is a model.
+ * What a service sees to, on which the promise hangs:
+ * - `now` is the box's own clock, never a time that a server sends.
+ * - Restart and new salt, kinds 8 and 9, are given by the box alone. A server's request for one is refused before the controller
+ *   is called: a restart gives up the held page, and with it each lock that is not yet on the disk.
+ * - A new salt is from the box's own generator, and no salt comes twice.
+ * - Memory and disk as an accepted command leaves them are stored, whole, before its answer leaves the box.
+ * - Nobody else writes them.
+ * Then a lock holds through everything that a server sends from the moment that the write is accepted, and it outlasts a restart
+ * once its page is on the disk: by a sync, by a new salt, or because another group's page took its place. examples/service/ is a
+ * model.
  */
 #ifndef SOCKJADE_H
 #define SOCKJADE_H
@@ -32,7 +38,7 @@ enum {
     SOCKJADE_ADDRESS_OUT_OF_RANGE = 5, /* no such data block; for a page, no such group */
     SOCKJADE_LENGTH_WRONG = 6,         /* data, proof or answer is not of the kind's length; when formatting, the salt */
     SOCKJADE_TAG_WRONG = 7,            /* the tag is not that of the page brought, under the present salt and count */
-    SOCKJADE_COUNT_SPENT = 8,          /* the group's count is spent, until a new salt */
+    SOCKJADE_COUNT_EXHAUSTED = 8,      /* the group's count is exhausted, until a new salt */
     SOCKJADE_STATE_WRONG = 9,          /* write: not free; unfreeze: not frozen; increment: free */
     SOCKJADE_LIMIT_EXCEEDED = 10,      /* a lock above 2,147,483,647 or an expiry above 4,294,967,294 */
     SOCKJADE_SALT_UNCHANGED = 11       /* the new salt is the present one */
@@ -47,8 +53,8 @@ enum {
     SOCKJADE_UNFREEZE = 5,  /* proof: page and tag; answer: the new page and tag */
     SOCKJADE_INCREMENT = 6, /* value: seconds to add; proof: page and tag; answer: the new page and tag */
     SOCKJADE_SYNC = 7,      /* the held page goes to the disk; answer: zeros */
-    SOCKJADE_RESTART = 8,   /* after a power cut: the held page is lost; answer: zeros */
-    SOCKJADE_NEW_SALT = 9,  /* data: the salt, from the box's own generator; answer: zeros */
+    SOCKJADE_RESTART = 8,   /* by the box alone, after a power cut: the held page is lost; answer: zeros */
+    SOCKJADE_NEW_SALT = 9,  /* by the box alone; data: the salt, from its own generator; answer: zeros */
     SOCKJADE_IDENTIFY = 10  /* answer: groups, data blocks (4 bytes each) */
 };
 

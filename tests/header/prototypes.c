@@ -1,0 +1,15 @@
+/* The functions, with their arguments in document 01's order. They are declared a second time, so that a header which has them with
+ * other types, or in another order that the types show, does not compile. */
+#include "sockjade.h"
+
+/* "A command has kind, block, now and value (32 bits each), data, proof .. and a 544-byte answer buffer" */
+uint32_t sockjade_command(uint8_t *memory, size_t memory_len, uint8_t *disk, size_t disk_len, uint32_t kind, uint32_t block,
+                          uint32_t now, uint32_t value, const uint8_t *data, size_t data_len, const uint8_t *proof,
+                          size_t proof_len, uint8_t *answer, size_t answer_len);
+
+/* "Formatting takes G and a salt" */
+uint32_t sockjade_format(uint8_t *memory, size_t memory_len, uint8_t *disk, size_t disk_len, uint32_t groups,
+                         const uint8_t *salt, size_t salt_len);
+
+/* "The digest itself takes 0 to 65,536 bytes and fills 32" */
+uint32_t sockjade_digest(const uint8_t *input, size_t input_len, uint8_t *out, size_t out_len);
