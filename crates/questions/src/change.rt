@@ -35,7 +35,8 @@ fn brought_entry(proof: &[u8], block: u32) -> Entry
     lockpage::entries::load_entry(&proof[0..lockpage::PAGE_SIZE], place)
 }
 
-// The number of the first of them that says no, or 0. One tag is made; the others cost a few comparisons.
+// The number of the first of questions 7 to 10 that says no, or 0. All are answered first: question 7 makes one tag, and the others cost
+// a few comparisons.
 pub(crate) fn refusal(memory: &[u8], u: Update, block: u32, time: u32, proof: &[u8]) -> u32
     requires { ⌜ (length (now memory) ≡ memorySize present) × ((groupOf present block < present .mostGroups) × ((length (now proof) ≡ proofSize present) × (time ≤ latestTime))) ⌝ }
     ensures { λ r. ⌜ r ≡ firstNo (changeQuestions present u (now (memory .entry)) block time (now (proof .entry))) ⌝ }
