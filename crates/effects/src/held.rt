@@ -13,7 +13,7 @@ ghost use Rattle.machine.specs.Effect as E;
 ghost use Rattle.answers.specs.Ready.{Sound};
 use memory::layout::NONE;
 
-// Puts the held page into a group's stretch of the disk: the page's part in its middle is lent on to be written.
+// Puts the held page into a group's stretch of the disk: the page's part of it is lent on to be written.
 fn put_page(group: &mut [u8], memory: &[u8])
     requires { ⌜ (length (now group) ≡ groupSize present) × (length (now memory) ≡ memorySize present) ⌝ }
     ensures { λ _. ⌜ now (group .exit) ≡ withBlock present (now (group .entry)) (pagePlace present) (heldPage present (now (memory .entry))) ⌝ }
