@@ -1,4 +1,4 @@
-// The address map: where data blocks, lock pages and groups lie on the disk. Only this crate knows its constants. The
+// The address map: where data blocks, lock pages and groups lie on the disk. Its constants are made here, from lockpage's. The
 // contracts cite specs/.
 ghost use mathlib.Core.Path.{_≡_};
 ghost use Prim.Native.Nat.{_<_};

@@ -1,6 +1,6 @@
 -- The definition itself, computed: on five of the published test vectors, which between them have an empty block, a short one, two
 -- blocks, a whole chunk, a parent and a tree of two levels, it gives b3sum's digests. The program of
--- this crate runs the rest. Assumes nothing.
+-- this crate prints these and the rest. Assumes nothing.
 use Prim.Native.Nat.{ℕ, zero, suc, _+_, _%_}
 use mathlib.Core.Path.{_≡_}
 use mathlib.Core.List.{List, [], _∷_, reverse}

@@ -1,4 +1,4 @@
--- The controller as definitions, in document 01's order, and the claims about them.
+-- The controller as definitions, each after those that it needs, and the claims about them.
 pub mod Command
 pub mod Tag
 pub mod Question

@@ -20,7 +20,8 @@ fn is_unexhausted(memory: &[u8], group: u32) -> bool
     memory::count(memory, group) < validity::COUNT_LIMIT
 }
 
-// The number of the first of them that says no, or 0. One tag is made; the others cost a few comparisons.
+// The number of the first of questions 7 to 10 that says no, or 0. All are answered first: question 7 makes one tag, and the others cost
+// a few comparisons.
 pub(crate) fn refusal(memory: &[u8], u: Update, block: u32, time: u32, proof: &[u8]) -> u32
     requires { ⌜ UpdateReady present (now memory) block time (now proof) ⌝ }
     ensures { λ r. ⌜ r ≡ firstNo (changeQuestions present u (now (memory .entry)) block time (now (proof .entry))) ⌝ }

@@ -1,5 +1,5 @@
-// All questions that a command is asked before it is carried out, in order; and a function for each of 7 to 11, which hang on its
-// kind. The contracts cite the definitions of machine.
+// All questions that a command is asked before it is carried out, in order: the first is validity's, 2 to 6 are form's, 7 to 10 are in
+// change, and 11 is here. The contracts cite the definitions of machine, and specs/ for 7 to 10 together.
 mod change;
 
 ghost use mathlib.Core.Path.{_≡_};

@@ -1,2 +1,2 @@
--- The definitions that the contracts of the exported functions cite.
+-- The definitions that the contract of the exported digest cites. Those of the other two functions cite machine.
 pub mod Digest

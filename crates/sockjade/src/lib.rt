@@ -1,5 +1,5 @@
 // The functions that a C service calls. A slice crosses as a pointer and a length. No call has a precondition, and each
-// contract fixes the number answered and every byte of each buffer, by specs/.
+// contract fixes the number answered and every byte of each buffer: the digest's by specs/, the others by the definitions of machine.
 ghost use mathlib.Core.Path.{_≡_};
 ghost use Rattle.lockpage.specs.Geometry.{present};
 ghost use Rattle.machine.specs.Step.{step};

@@ -13,7 +13,7 @@ impl Archive {
         let mut made =
             Archive { memory: [0xAA; 616], disk: vec![0xBB; 33_280 * groups as usize], answer: [0xCC; 544] };
         let number = archive::format(&mut made.memory, &mut made.disk, groups, &[0; 32]);
-        same("formatting's number", &[number as u8], &[0])?;
+        numbered(&format!("formatting {groups} groups"), number, 0)?;
         Ok(made)
     }
 
@@ -33,10 +33,7 @@ impl Archive {
         };
         let Archive { memory, disk, answer } = self;
         let got = archive::command(memory, disk, kind, block, now, value, data, &proof, answer);
-        if got == number {
-            return Ok(());
-        }
-        Err(format!("by hand: {kind} {block} {now} {value} answered {got} instead of {number}"))
+        numbered(&format!("{kind} {block} {now} {value}"), got, number)
     }
 
     /// Kind 2 answers these 17 bytes and then zeros.
@@ -47,10 +44,54 @@ impl Archive {
     }
 }
 
+/// A call answered this number, in all of its 32 bits.
+fn numbered(what: &str, got: u32, right: u32) -> Result<(), String> {
+    if got == right {
+        return Ok(());
+    }
+    Err(format!("by hand: {what} answered {got} instead of {right}"))
+}
+
+/// The bytes are these, and as many. Else the first place where they differ is told, and the lengths
+/// where these differ.
 pub fn same(what: &str, got: &[u8], right: &[u8]) -> Result<(), String> {
     if got == right {
         return Ok(());
     }
-    let at = got.iter().zip(right).position(|(a, b)| a != b).unwrap_or(0);
-    Err(format!("by hand: {what}: byte {at} is {:02x} instead of {:02x}", got[at], right[at]))
+    let lengths = match (got.len(), right.len()) {
+        (a, b) if a == b => String::new(),
+        (a, b) => format!("{a} bytes instead of {b}: "),
+    };
+    let at = got.iter().zip(right).take_while(|(a, b)| a == b).count();
+    let [is, expected] = [got, right].map(|bytes| bytes.get(at).map_or("none".into(), |byte| format!("{byte:02x}")));
+    Err(format!("by hand: {what}: {lengths}byte {at} is {is} instead of {expected}"))
+}
+
+#[cfg(test)]
+mod tests {
+    use super::{numbered, same};
+
+    fn told(got: &[u8], right: &[u8]) -> String {
+        same("it", got, right).unwrap_err()
+    }
+
+    #[test]
+    fn a_difference_is_told_with_its_place() {
+        assert_eq!(told(&[1, 2, 3], &[1, 5, 4]), "by hand: it: byte 1 is 02 instead of 05");
+        assert_eq!(same("it", &[1, 2], &[1, 2]), Ok(()));
+    }
+
+    #[test]
+    fn lengths_that_differ_are_told() {
+        assert_eq!(told(&[1, 2], &[1, 2, 3]), "by hand: it: 2 bytes instead of 3: byte 2 is none instead of 03");
+        assert_eq!(told(&[1, 2, 3], &[1, 2]), "by hand: it: 3 bytes instead of 2: byte 2 is 03 instead of none");
+        assert_eq!(told(&[], &[9]), "by hand: it: 0 bytes instead of 1: byte 0 is none instead of 09");
+        assert_eq!(told(&[7, 2], &[8, 2, 3]), "by hand: it: 2 bytes instead of 3: byte 0 is 07 instead of 08");
+    }
+
+    #[test]
+    fn a_number_is_more_than_its_low_byte() {
+        assert_eq!(numbered("it", 256, 0).unwrap_err(), "by hand: it answered 256 instead of 0");
+        assert_eq!(numbered("it", 7, 7), Ok(()));
+    }
 }
