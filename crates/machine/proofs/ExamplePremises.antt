@@ -18,9 +18,9 @@ use Rattle.memory.specs.Layout.{memorySize, saltSize}
 use Rattle.machine.specs.declared.Kind.the-variants.{Read, Entry, Sync, Restart}
 use Rattle.machine.specs.Command.{Command, kindNumbered, answerSize}
 use Rattle.machine.specs.Tag.{currentPage}
-use Rattle.machine.specs.Step.{step, padded}
+use Rattle.machine.specs.Step.{step, padded, Accepted}
 use Rattle.machine.specs.Run.{Event, Given, run, Throughout}
-use Rattle.machine.specs.Claims.{Accepted, ByteBox}
+use Rattle.machine.specs.Claims.{ByteBox}
 use Rattle.machine.specs.Protection.{Unforged, NotUnfrozen, startEntry, Protected, FrozenUnder, NeverUnfrozen}
 use Rattle.machine.specs.Example.{formattedBox, writing, writtenBox, syncing, start, unfreezing, unfrozenBox, showing, shownBox, restarting, restartedBox, readingBack, readBox, unfreezingAgain, countingBox, overwriting, events, showingOther, otherBox, readingOther, otherEvents, IsAccepted, ShowsProtected, PremisesMet}
 use Rattle.machine.proofs.QuestionLaw.{asks, no-seventh}
