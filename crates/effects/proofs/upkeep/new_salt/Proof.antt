@@ -10,21 +10,24 @@ use Rattle.effects.proofs.UpkeepLaw.{renewed}
 use Rattle.effects.proofs.upkeep.new_salt.Statement.{statement}
 use Rattle.effects.proofs.upkeep.new_salt.Tie as tie
 
--- the memory's length at entry
-size : (start : tie.Start) → length (start .args .memory .now) ≡ memorySize present
-size start = facts σ _ (start .pre .0 .box .memory) .size
+-- where it starts, once the sync is done
+abbrev start : tie.After-memory → tie.Start
+start c = c .before .before .before .before .before .before .before .before .before
+
+-- the memory is as long as at entry
+size : (c : tie.After-memory) → length (start c .args .memory .now) ≡ memorySize present
+size c = facts σ _ (start c .pre .0 .box .memory) .size
 
 clear-counts-requires : tie.Need-clear-counts-requires
 clear-counts-requires c κs =
     let kept = c .before .before .before .before .before .before in
-    kept .memory .given ∙ size (kept .before .before .before .before .before .before .before .before .before)
+    kept .memory .given ∙ size kept
 
 set-salt-requires : tie.Need-set-salt-requires
 set-salt-requires c κs =
     let cleared = c .before .before in
     let kept = cleared .before .before .before .before .before .before .before .before in
-    let start = kept .before .before .before .before .before .before .before .before .before in
-    (cleared .memory2 .given ∙ kept .memory .given ∙ size start, start .pre .1)
+    (cleared .memory2 .given ∙ kept .memory .given ∙ size kept, start kept .pre .1)
 
 returns : tie.Need-returns
 returns c =

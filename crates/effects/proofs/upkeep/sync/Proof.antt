@@ -7,7 +7,10 @@ use Rattle.effects.proofs.UpkeepLaw.{synced}
 use Rattle.effects.proofs.upkeep.sync.Statement.{statement}
 use Rattle.effects.proofs.upkeep.sync.Tie as tie
 
--- where it starts, once the last time is set
+-- the states on the way back: the last time set, the start
+abbrev timed : tie.After-put-held → tie.After-set-last-time
+timed c = c .before .before .before .before .before
+
 abbrev start : tie.After-set-last-time → tie.Start
 start c = c .before .before .before .before .before
 
@@ -19,8 +22,7 @@ sound c κs =
 
 none-requires : tie.Need-hold-none-requires
 none-requires c κs =
-    let put = c .before .before .before in
-    let size = facts σ _ (start (put .before .before .before .before .before) .pre .box .memory) .size in
+    let size = facts σ _ (start (timed (c .before .before .before)) .pre .box .memory) .size in
     search needs
 
 returns : tie.Need-returns
@@ -28,7 +30,7 @@ returns c =
     let zeroed = c .before .before in
     let dropped = zeroed .before .before .before .before in
     let put = dropped .before .before .before .before in
-    let set = put .before .before .before .before .before in
+    let set = timed put in
     synced σ _ _ _ (set .set-last-time .ensures) _ _ (start set .pre .answer-size) (zeroed .zero-tail .ensures) _ _ _ (put .put-held .ensures)
     (dropped .hold-none .ensures)
 
