@@ -41,7 +41,7 @@ finished-taken r s out h = rw (le-leb mostPrinted (length out) h, finished)
 -- ---- all of them
 
 -- they have written what the whole input, read at once, prints
-calls-whole : (calls : List Call) (last : List ℕ) (r : Reader) (s : Box) → HaveRoom calls → mostPrinted ≤ length last
+pub calls-whole : (calls : List Call) (last : List ℕ) (r : Reader) (s : Box) → HaveRoom calls → mostPrinted ≤ length last
     → allWritten r s calls last ≡ wholeRead r s (inputOf calls)
 unfolding allWritten flatten pieceRead taken placed
 calls-whole [] last r s h e = ap outputOf (finished-taken r s last e) ∙ written-printed (inputEnd r s) last

@@ -73,7 +73,7 @@ pub fn interpret(mut script: &[u8]) -> Vec<u8> {
 }
 
 /// The first line in which two printouts differ.
-fn difference(printed: &[u8], right: &[u8]) -> Option<String> {
+pub fn difference(printed: &[u8], right: &[u8]) -> Option<String> {
     if printed == right {
         return None;
     }

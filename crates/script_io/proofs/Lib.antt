@@ -1,0 +1,3 @@
+-- The laws of a turn, which the code proofs cite, and the claim of specs/Claims.antt, proved.
+pub mod TurnLaw
+pub mod Theorems

@@ -1,4 +1,0 @@
-// The script program on every kind, accepted.
-fn main() {
-    script_io::run();
-}
