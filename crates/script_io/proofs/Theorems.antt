@@ -12,8 +12,8 @@ use Rattle.script_answers.specs.Answer.{mostPrinted}
 use Rattle.script_printout.specs.declared.Stage.the-variants.{Header, Body, Ended}
 use Rattle.script_printout.specs.declared.Stage.{Stage}
 use Rattle.script_printout.specs.declared.Reader.{Reader}
-use Rattle.script_printout.specs.Reader.{Printing, printing, after, pieceRead, inputEnd, Fed, fed}
-use Rattle.script_printout.specs.Claims.{Call, written, allWritten, HaveRoom, inputOf}
+use Rattle.script_printout.specs.Reader.{Printing, printing, prefixed, pieceRead, inputEnd, Fed, fed}
+use Rattle.script_printout.specs.Claims.{Call, outputOf, allWritten, BuffersFit, inputOf}
 use Rattle.script_printout.proofs.ReaderLaw.{byte-ended, end-ended}
 use Rattle.script_printout.proofs.Theorems.{calls-whole, pieces-printed}
 use Rattle.script_io.specs.Turn.{stepped, hasEnded, isEnd, goesOn}
@@ -35,10 +35,10 @@ module _ (r : Reader) (s : Box) (e : r .stage ≡ Ended) where
   unfolding pieceRead
   piece-ended [] = refl
   piece-ended (b ∷ piece) =
-      ap (λ (p : Printing). after (p .printed) (pieceRead (p .reader) (p .box) piece)) (byte-ended r s b e) ∙ piece-ended piece
+      ap (λ (p : Printing). prefixed (p .printed) (pieceRead (p .reader) (p .box) piece)) (byte-ended r s b e) ∙ piece-ended piece
 
   -- nothing more is written
-  ended-silent : (calls : List Call) (last : List ℕ) → HaveRoom calls → mostPrinted ≤ length last → allWritten r s calls last ≡ []
+  ended-silent : (calls : List Call) (last : List ℕ) → BuffersFit calls → mostPrinted ≤ length last → allWritten r s calls last ≡ []
   ended-silent calls last h l =
       calls-whole calls last r s h l
       ∙ ap (λ (p : Printing). p .printed ++ inputEnd (p .reader) (p .box) .printed) (piece-ended (inputOf calls))
@@ -72,24 +72,24 @@ chosen false more rest h k = k refl
 -- what a turn that leaves f has written, with those behind it
 abbrev writtenFrom : ℕ → List Read → Fed → List ℕ
 writtenFrom got reads f =
-    written f ++ elim (goesOn (turnOf got f)) [ true ↦ turnsWritten (f .placed .reader) (f .placed .box) reads | false ↦ [] ]
+    outputOf f ++ elim (goesOn (turnOf got f)) [ true ↦ turnsWritten (f .placed .reader) (f .placed .box) reads | false ↦ [] ]
 
-turns-calls : (reads : List Read) (last : Read) (r : Reader) (s : Box) → GetBytes reads → last .got ≡ 0 → HaveRoom (map callOf reads)
+turns-calls : (reads : List Read) (last : Read) (r : Reader) (s : Box) → GetBytes reads → last .got ≡ 0 → BuffersFit (map callOf reads)
     → mostPrinted ≤ length (last .buffer)
     → turnsWritten r s (reads ++ (last ∷ [])) ≡ allWritten r s (map callOf reads) (last .buffer)
 unfolding turnsWritten allWritten stepped
 turns-calls [] last r s g e h l =
     let f = stepped r s (pos (last .got)) (last .piece) (last .buffer) in
-    ap (λ (t : List ℕ). written f ++ t) (chosen (goesOn (turnOf (last .got) f)) [] [] (λ _. refl) (λ _. refl))
-    ∙ append-nil (written f)
-    ∙ ap (λ (n : ℕ). written (stepped r s (pos n) (last .piece) (last .buffer))) e
+    ap (λ (t : List ℕ). outputOf f ++ t) (chosen (goesOn (turnOf (last .got) f)) [] [] (λ _. refl) (λ _. refl))
+    ∙ append-nil (outputOf f)
+    ∙ ap (λ (n : ℕ). outputOf (stepped r s (pos n) (last .piece) (last .buffer))) e
 turns-calls (x ∷ reads) last r s g e h l =
     let f = fed r s (callOf x .piece) (x .buffer) in
     let r' = f .placed .reader in
     let s' = f .placed .box in
     let taken = fed-taken r s (callOf x .piece) (x .buffer) (h .0) in
     ap (writtenFrom (x .got) (reads ++ (last ∷ []))) (stepped-some r s (x .got) (x .piece) (x .buffer) (g .0))
-    ∙ ap (λ (t : List ℕ). written f ++ t)
+    ∙ ap (λ (t : List ℕ). outputOf f ++ t)
     (chosen (goesOn (turnOf (x .got) f)) (turnsWritten r' s' (reads ++ (last ∷ []))) (allWritten r' s' (map callOf reads) (last .buffer))
     (λ _. turns-calls reads last r' s' (g .1) e (h .1) l)
     (λ b. sym (ended-silent r' s' (stops (x .got) f (g .0) taken b) (map callOf reads) (last .buffer) (h .1) l)))

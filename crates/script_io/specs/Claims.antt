@@ -8,9 +8,9 @@ use lib.IntN.{pos}
 use Rattle.machine.specs.Command.{Box}
 use Rattle.script_answers.specs.Answer.{mostPrinted}
 use Rattle.script_printout.specs.declared.Reader.{Reader}
-use Rattle.script_printout.specs.Printout.{blankBox, formatted, printout}
+use Rattle.script_printout.specs.Printout.{blankBox, scriptBox, printout}
 use Rattle.script_printout.specs.Reader.{begun, mostNumber, Fed}
-use Rattle.script_printout.specs.Claims.{Call, written, HaveRoom, inputOf}
+use Rattle.script_printout.specs.Claims.{Call, outputOf, BuffersFit, inputOf}
 use Rattle.script_io.specs.declared.Turn.{Turn}
 use Rattle.script_io.specs.Turn.{stepped, goesOn}
 
@@ -34,7 +34,7 @@ unfoldable pub turnsWritten : Reader → Box → List Read → List ℕ
 turnsWritten r s [] = []
 turnsWritten r s (x ∷ reads) =
     let f = stepped r s (pos (x .got)) (x .piece) (x .buffer) in
-    written f ++ elim (goesOn (turnOf (x .got) f)) [ true ↦ turnsWritten (f .placed .reader) (f .placed .box) reads | false ↦ [] ]
+    outputOf f ++ elim (goesOn (turnOf (x .got) f)) [ true ↦ turnsWritten (f .placed .reader) (f .placed .box) reads | false ↦ [] ]
 
 -- the bytes got, as a call of the library
 abbrev pub callOf : Read → Call
@@ -48,5 +48,5 @@ GetBytes (x ∷ reads) = (0 < x .got) × GetBytes reads
 -- than lines are counted
 abbrev pub TurnsPrinted : Type 0
 TurnsPrinted = (reads : List Read) (last : Read) → GetBytes reads → last .got ≡ 0
-    → HaveRoom (map callOf reads) → mostPrinted ≤ length (last .buffer) → length (inputOf (map callOf reads)) < mostNumber
-    → turnsWritten begun (formatted blankBox) (reads ++ (last ∷ [])) ≡ printout (inputOf (map callOf reads))
+    → BuffersFit (map callOf reads) → mostPrinted ≤ length (last .buffer) → length (inputOf (map callOf reads)) < mostNumber
+    → turnsWritten begun (scriptBox blankBox) (reads ++ (last ∷ [])) ≡ printout (inputOf (map callOf reads))

@@ -4,7 +4,7 @@
 mod steps;
 
 ghost use mathlib.Core.Path.{_≡_};
-ghost use Rattle.machine.specs.Command.{boxOf};
+ghost use Rattle.machine.specs.Call.{boxAt};
 ghost use Rattle.script_printout.specs.Reader.{fedOf};
 ghost use Rattle.script_io.specs.Turn.{stepped};
 use addressing::GROUP_SIZE;
@@ -48,7 +48,8 @@ fn read_piece(
     piece: &mut [u8],
     out: &mut [u8],
 ) -> Turn
-    ensures { λ r. ⌜ fedOf (r .fed .taken) (r .fed .progress) (boxOf (now (memory .exit)) (now (disk .exit))) (now (out .exit)) ≡ stepped reader (boxOf (now (memory .entry)) (now (disk .entry))) (r .got) (now (piece .exit)) (now (out .entry)) ⌝ }
+    ensures { λ r. ⌜ fedOf (r .fed .taken) (r .fed .progress) (boxAt (memory .exit) (disk .exit)) (now (out .exit))
+        ≡ stepped reader (boxAt (memory .entry) (disk .entry)) (r .got) (now (piece .exit)) (now (out .entry)) ⌝ }
 {
     let got = libc::read(descriptor, piece);
     let fed = steps::step(reader, memory, disk, got, piece, out);

@@ -2,7 +2,7 @@
 ghost use mathlib.Core.Path.{_≡_};
 ghost use Prim.Native.Nat.{_≤_};
 ghost use lib.ListN.{length};
-ghost use Rattle.machine.specs.Command.{boxOf};
+ghost use Rattle.machine.specs.Call.{boxAt};
 ghost use Rattle.script_printout.specs.Reader.{fedOf};
 ghost use Rattle.script_io.specs.Turn.{stepped, hasEnded, goesOn};
 use crate::Turn;
@@ -23,7 +23,9 @@ pub(crate) fn step(
     piece: &[u8],
     out: &mut [u8],
 ) -> Fed
-    ensures { λ r. ⌜ (fedOf (r .taken) (r .progress) (boxOf (now (memory .exit)) (now (disk .exit))) (now (out .exit)) ≡ stepped reader (boxOf (now (memory .entry)) (now (disk .entry))) got (now (piece .entry)) (now (out .entry))) × (r .progress .end ≤ length (now (out .entry))) ⌝ }
+    ensures { λ r. ⌜ (fedOf (r .taken) (r .progress) (boxAt (memory .exit) (disk .exit)) (now (out .exit))
+        ≡ stepped reader (boxAt (memory .entry) (disk .entry)) got (now (piece .entry)) (now (out .entry)))
+        × (r .progress .end ≤ length (now (out .entry))) ⌝ }
 {
     if got < 0 {
         return Fed {

@@ -14,7 +14,7 @@ use Rattle.script_answers.specs.Answer.{mostPrinted}
 use Rattle.script_printout.specs.declared.Reader.{Reader}
 use Rattle.script_printout.specs.Printout.{blankBox, scriptBox, printout}
 use Rattle.script_printout.specs.Reader.{Printing, pieceRead, inputEnd, placed, Fed, fed, finished}
-use Rattle.script_printout.specs.Claims.{Call, outputOf, allWritten, HaveRoom, inputOf, PiecesPrinted}
+use Rattle.script_printout.specs.Claims.{Call, outputOf, allWritten, BuffersFit, inputOf, PiecesPrinted}
 use Rattle.script_printout.proofs.ReaderLaw.{wholeRead, piece-append}
 use Rattle.script_printout.proofs.HeaderLaw.{header-reads}
 
@@ -41,7 +41,7 @@ finished-taken r s out h = rw (le-leb mostPrinted (length out) h, finished)
 -- ---- all of them
 
 -- they have written what the whole input, read at once, prints
-pub calls-whole : (calls : List Call) (last : List ℕ) (r : Reader) (s : Box) → HaveRoom calls → mostPrinted ≤ length last
+pub calls-whole : (calls : List Call) (last : List ℕ) (r : Reader) (s : Box) → BuffersFit calls → mostPrinted ≤ length last
     → allWritten r s calls last ≡ wholeRead r s (inputOf calls)
 unfolding allWritten flatten pieceRead taken placed
 calls-whole [] last r s h e = ap outputOf (finished-taken r s last e) ∙ written-printed (inputEnd r s) last

@@ -27,9 +27,9 @@ allWritten r s (c ∷ calls) last =
     outputOf f ++ allWritten (f .placed .reader) (f .placed .box) calls last
 
 -- each buffer has room for a line at each byte
-abbrev pub HaveRoom : List Call → Type 0
-HaveRoom [] = Unit
-HaveRoom (c ∷ calls) = (length (c .piece) * mostPrinted ≤ length (c .buffer)) × HaveRoom calls
+abbrev pub BuffersFit : List Call → Type 0
+BuffersFit [] = Unit
+BuffersFit (c ∷ calls) = (length (c .piece) * mostPrinted ≤ length (c .buffer)) × BuffersFit calls
 
 -- the whole input
 abbrev pub inputOf : List Call → List ℕ
@@ -37,5 +37,5 @@ inputOf calls = flatten (map (λ (c : Call). c .piece) calls)
 
 -- however the input is cut, the calls have the bytes of its printout written. The input has fewer bytes than lines are counted: 2 ^ 64 - 1
 abbrev pub PiecesPrinted : Type 0
-PiecesPrinted = (calls : List Call) (last : List ℕ) → HaveRoom calls → mostPrinted ≤ length last → length (inputOf calls) < mostNumber
+PiecesPrinted = (calls : List Call) (last : List ℕ) → BuffersFit calls → mostPrinted ≤ length last → length (inputOf calls) < mostNumber
     → allWritten begun (scriptBox blankBox) calls last ≡ printout (inputOf calls)
