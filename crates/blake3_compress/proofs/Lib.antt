@@ -1,4 +1,2 @@
 -- The laws that proofs here and in the crates above cite.
-pub mod WordLaw
-pub mod RoundLaw
 pub mod CompressLaw

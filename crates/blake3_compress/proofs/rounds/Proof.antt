@@ -1,6 +1,6 @@
 -- `blake3_compress::rounds` meets its contract: seven rounds, one after the other. Assumes nothing.
 use borrow.Author.Needs.{needs}
-use Rattle.blake3_compress.proofs.RoundLaw.{round-of, last-of}
+use Rattle.blake3_compress.proofs.CompressLaw.{round-of, last-of}
 use Rattle.blake3_compress.proofs.rounds.Statement.{statement}
 use Rattle.blake3_compress.proofs.rounds.Tie as tie
 

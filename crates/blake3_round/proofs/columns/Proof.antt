@@ -1,11 +1,11 @@
--- `blake3_compress::columns` meets its contract: it is that of the mixing, at the message words that it passes. Assumes nothing.
+-- `blake3_round::columns` meets its contract: it is that of the mixing, at the message words that it passes. Assumes nothing.
 use borrow.Author.Needs.{needs}
-use Rattle.blake3_compress.specs.Compress as C
-use Rattle.blake3_compress.proofs.columns.Statement.{statement}
-use Rattle.blake3_compress.proofs.columns.Tie as tie
+use Rattle.blake3_round.specs.Round as R
+use Rattle.blake3_round.proofs.columns.Statement.{statement}
+use Rattle.blake3_round.proofs.columns.Tie as tie
 
 returns : tie.Need-returns
-unfolding C.columns
+unfolding R.columns
 returns c = c .mix .ensures
 
 pub columns-spec : {M : Type 1} → statement M

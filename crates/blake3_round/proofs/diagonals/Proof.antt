@@ -1,8 +1,8 @@
--- `blake3_compress::diagonals` meets its contract: the rows turned left, mixed and turned back are the mixed diagonals. Assumes nothing.
+-- `blake3_round::diagonals` meets its contract: the rows turned left, mixed and turned back are the mixed diagonals. Assumes nothing.
 use borrow.Author.Needs.{needs}
-use Rattle.blake3_compress.proofs.RoundLaw.{diagonals-of}
-use Rattle.blake3_compress.proofs.diagonals.Statement.{statement}
-use Rattle.blake3_compress.proofs.diagonals.Tie as tie
+use Rattle.blake3_round.proofs.RoundLaw.{diagonals-of}
+use Rattle.blake3_round.proofs.diagonals.Statement.{statement}
+use Rattle.blake3_round.proofs.diagonals.Tie as tie
 
 returns : tie.Need-returns
 returns c =

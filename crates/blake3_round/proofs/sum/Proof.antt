@@ -1,11 +1,11 @@
--- `blake3_compress::sum` meets its contract, word by word. Assumes nothing.
+-- `blake3_round::sum` meets its contract, word by word. Assumes nothing.
 use borrow.Author.Needs.{needs}
-use Rattle.blake3_compress.specs.Compress as C
-use Rattle.blake3_compress.proofs.sum.Statement.{statement}
-use Rattle.blake3_compress.proofs.sum.Tie as tie
+use Rattle.blake3_round.specs.Round as R
+use Rattle.blake3_round.proofs.sum.Statement.{statement}
+use Rattle.blake3_round.proofs.sum.Tie as tie
 
 returns : tie.Need-returns
-unfolding C.sums
+unfolding R.sums
 returns c = cc
 
 pub sum-spec : {M : Type 1} → statement M

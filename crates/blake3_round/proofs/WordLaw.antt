@@ -5,14 +5,14 @@ use native.Mathlib.Nat.{add-comm, add-zero, mul-mod-left}
 use native.Mathlib.Omega.{arith}
 use lib.Bits.{bitOr, or-shifted-r}
 use lib.Pow.{shr-lt, mod-pow-add, shl-shr}
-use Rattle.blake3_compress.specs.Compress as C
+use Rattle.blake3_round.specs.Round as R
 
 -- x shifted up by k at j + k bits is the low j bits of x, k places up
 shl-low : (x j k : ℕ) → (x * 2 ^ k) % 2 ^ (j + k) ≡ (x % 2 ^ j) * 2 ^ k
 shl-low x j k = rw (mod-pow-add, shl-shr, mul-mod-left) (add-zero _)
 
-pub rotr-or : (x n : ℕ) → n < 32 → x < 2 ^ 32 → bitOr (x / 2 ^ n) ((x * 2 ^ (32 - n)) % 2 ^ 32) ≡ C.rotr x n
-unfolding C.rotr
+pub rotr-or : (x n : ℕ) → n < 32 → x < 2 ^ 32 → bitOr (x / 2 ^ n) ((x * 2 ^ (32 - n)) % 2 ^ 32) ≡ R.rotr x n
+unfolding R.rotr
 rotr-or x n hn hx =
     let up : 32 ≡ n + (32 - n) = omega arith in
     let down : 32 ≡ (32 - n) + n = omega arith in

@@ -1,12 +1,12 @@
--- `blake3_compress::mix` meets its contract: the rows of its eight steps are the four mixed columns. Assumes nothing.
+-- `blake3_round::mix` meets its contract: the rows of its eight steps are the four mixed columns. Assumes nothing.
 use borrow.Author.Needs.{needs}
-use Rattle.blake3_compress.specs.Compress as C
-use Rattle.blake3_compress.proofs.RoundLaw.{mixed-of}
-use Rattle.blake3_compress.proofs.mix.Statement.{statement}
-use Rattle.blake3_compress.proofs.mix.Tie as tie
+use Rattle.blake3_round.specs.Round as R
+use Rattle.blake3_round.proofs.RoundLaw.{mixed-of}
+use Rattle.blake3_round.proofs.mix.Statement.{statement}
+use Rattle.blake3_round.proofs.mix.Tie as tie
 
 returns : tie.Need-returns
-unfolding C.mixed
+unfolding R.mixed
 returns c =
     let second = c .before .before .before .before .before in
     mixed-of _ _ _ _ _ _ _ _ _ _ _ _ _ _ _ _

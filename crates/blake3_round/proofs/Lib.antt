@@ -1,0 +1,3 @@
+-- The laws that proofs cite.
+pub mod WordLaw
+pub mod RoundLaw

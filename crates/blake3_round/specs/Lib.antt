@@ -1,0 +1,2 @@
+-- The definitions that the contracts of blake3_round cite, and every crate above it.
+pub mod Round
