@@ -21,16 +21,15 @@ put-at t = and 1 put-kinds.ps (is 1 put-kinds.ps μ-put t) put.Pre
 abbrev put-below : ℕ → In 1 put-kinds.ps
 put-below t = and 1 put-kinds.ps (falls 1 put-kinds.ps _<_ μ-put t) put.Pre
 
+-- where it starts, once the call is to be made
+abbrev start : (t : ℕ) → put-lts.After-put-arg (put-below t, put.Post) (put-at t) put.Post → put-lts.Start (put-below t, put.Post) (put-at t) put.Post
+start t c = c .before .before .before
+
 -- behind the call
-rest : (t : ℕ) (c : put-lts.After-slice-known2 (put-below t, put.Post) (put-at t) put.Post)
-    → Rest (c .before .before .before .before .before .before .args .out .now)
-    (c .before .before .before .before .before .before .args .at)
-    (c .before .before .before .before .before .before .args .n)
-    (c .before .before .put .last .0)
-    (c .before .before .put .result)
-rest t c =
-    let start = c .before .before .before .before .before .before in
-    put-more _ _ _ _ _ (c .before .before .before .before .if1 .left) (start .pre .1) (c .before .before .put .ensures)
+rest : (t : ℕ) (c : put-lts.After-put (put-below t, put.Post) (put-at t) put.Post)
+    → let x = start t (c .before) .args in
+    Rest (x .out .now) (x .at) (x .n) (c .put .last .0) (c .put .result)
+rest t c = put-more _ _ _ _ _ (c .before .before .if1 .left) (start t (c .before) .pre .1) (c .put .ensures)
 
 put-within : (t : ℕ) → put-lts.Need-slice-write-out (put-below t, put.Post) (put-at t) put.Post
 put-within t c = omega (arith, decimal-some (c .before .before .args .n))
@@ -45,10 +44,10 @@ pub +put-spec : {M : Type 1} → statement M
     (λ c. search needs)
     (λ c. search needs)
     (λ c. put-one _ _ _ (c .if1 .taken) (c .before .before .pre .1))
-    (λ c κs. (omega arith, omega (arith, decimal-longer (c .before .before .before .args .n) (c .before .if1 .left))))
+    (λ c κs. (omega arith, omega (arith, decimal-longer (start t c .args .n) (c .before .if1 .left))))
     (λ c. search needs)
     (λ c. search needs)
-    (λ c. rest t c .inside)
-    (λ c. record { fits = omega (arith, rest t c .fits) })
+    (λ c. rest t (c .before .before) .inside)
+    (λ c. record { fits = omega (arith, rest t (c .before .before) .fits) })
     (λ c. search needs)
-    (λ c. rest t c .put)
+    (λ c. rest t (c .before .before) .put)

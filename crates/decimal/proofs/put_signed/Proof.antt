@@ -22,9 +22,15 @@ unsigned c = unsigned-text (c .before .before .args .z) (c .before .before .fits
 
 returns : tie.Need-returns
 returns c =
-    let start = c .before .before .before .before .before .before in
-    let e = signed (c .before .before .before .before) .text in
-    rw e (put-sign _ _ _ _ _ _ (rw e at (start .pre)) (c .before .before .put .ensures))
+    let put = c .before .before in
+    let test = put .before .before in
+    let e = signed test .text in
+    rw e (put-sign _ _ _ _ _ _ (rw e at (test .before .before .pre)) (put .put .ensures))
+
+returns-2 : tie.Need-returns-2
+returns-2 c =
+    let put = c .before .before in
+    rw (unsigned (put .before .before) .text) (put .put2 .ensures)
 
 pub put-signed-spec : {M : Type 1} → statement M
 put-signed-spec =
@@ -40,4 +46,4 @@ put-signed-spec =
     (λ c. left (c .before) .casts)
     (λ c κs. omega (arith, ap length (unsigned (c .before) .text)))
     (λ c. search needs)
-    (λ c. rw (unsigned (c .before .before .before .before) .text) (c .before .before .put2 .ensures)))
+    returns-2)

@@ -25,16 +25,20 @@ loop-holds c =
     let x = c .before .before .before .args in
     feeding-start (x .reader) (boxOf (x .memory .now) (x .disk .now)) (x .piece .now) (x .out .now) _ refl refl (omega (arith, c .if1 .left))
 
+-- the state on the way back from a byte's reading: a byte is left
+abbrev tested : tie.After-read-byte-arg3 Inv-loop μ-loop → tie.In-loop Inv-loop μ-loop
+tested c = c .before .before .before .before
+
 read-byte-requires : tie.Need-read-byte-requires Inv-loop μ-loop
 read-byte-requires c κs =
-    let test = c .before .before .before .before in
+    let test = tested c in
     let inv = test .before .loop .inv in
     omega (arith, feeding-size _ _ _ _ _ _ _ _ inv, inv .inside, test .loop-test .taken)
 
 loop-again : tie.Need-loop-again Inv-loop μ-loop
 loop-again c =
     let read = c .before .before in
-    let test = read .before .before .before .before .before in
+    let test = tested (read .before) in
     feeding-step _ _ _ _ _ _ _ _ (test .before .loop .inv) _ _ _ _ (omega (arith, test .loop-test .taken)) refl (read .read-byte .ensures)
 
 returns : tie.Need-returns-2 Inv-loop μ-loop

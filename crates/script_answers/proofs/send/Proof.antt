@@ -13,34 +13,41 @@ use Rattle.script_answers.proofs.RunLaw.{sent-other, sent-refused, sent
 use Rattle.script_answers.proofs.send.Statement.{statement}
 use Rattle.script_answers.proofs.send.Tie as tie
 
+-- the states on the way back: accepted, sent, the start
+abbrev accepted : tie.After-load-i64 → tie.Else2
+accepted c = c .before .before .before .before
+
+abbrev sent : tie.After-struct-known → tie.After-command
+sent c = c .before .before
+
+abbrev start : tie.After-command → tie.Start
+start c = c .before .before .before .before .before .before
+
 -- the command's outcome
-abbrev outcome : tie.Start → Outcome
-outcome start =
-    let x = start .args in
+abbrev outcome : tie.After-command → Outcome
+outcome c =
+    let x = start c .args in
     step present (boxOf (x .memory .now) (x .disk .now))
     (commandOf (x .v .kind) (x .v .block) (x .v .time) (x .v .value) (x .content .now) (x .proof .now) buffer)
 
 other : tie.Need-returns
 unfolding buffer repeated
 other c =
-    let sent = c .before .before .before in
-    let start = sent .before .before .before .before .before .before in
-    sent-other _ _ _ _ _ (outcome start) (sent .command .ensures) (c .if1 .taken)
+    let done = sent (c .before) in
+    sent-other _ _ _ _ _ (outcome done) (done .command .ensures) (c .if1 .taken)
 
 refused : tie.Need-returns-2
 unfolding buffer repeated
 refused c =
-    let sent = c .before .before .before .before in
-    let start = sent .before .before .before .before .before .before in
-    sent-refused _ _ _ _ _ (outcome start) (sent .command .ensures) (omega (arith, c .before .if1 .left)) (c .if2 .taken)
+    let done = sent (c .before .before) in
+    sent-refused _ _ _ _ _ (outcome done) (done .command .ensures) (omega (arith, c .before .if1 .left)) (c .if2 .taken)
 
 entry : tie.Need-returns-3
 unfolding buffer repeated
 entry c =
-    let passed = c .before .before .before .before in
-    let sent = passed .before .before .before .before in
-    let start = sent .before .before .before .before .before .before in
-    sent-entry _ _ _ _ _ (outcome start) (sent .command .ensures) (omega (arith, passed .before .if1 .left))
+    let passed = accepted c in
+    let done = sent (passed .before .before) in
+    sent-entry _ _ _ _ _ (outcome done) (done .command .ensures) (omega (arith, passed .before .if1 .left))
     (omega (arith, passed .if2 .left)) _ _ (c .before .before .load-u8 .ensures)
     (toZ-ofZ w64 (c .load-i64 .result) (search needs) ∙ c .load-i64 .ensures)
 

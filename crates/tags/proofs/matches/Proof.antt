@@ -8,7 +8,9 @@ use Rattle.tags.proofs.matches.Tie as tie
 
 returns : tie.Need-returns
 unfolding part broughtPage broughtTag
-returns c = c .equal .ensures ∙ ap (equal _) (c .before .before .before .before .tag .ensures)
+returns c =
+    let made = c .before .before .before .before in
+    c .equal .ensures ∙ ap (equal _) (made .tag .ensures)
 
 pub matches-spec : {M : Type 1} → statement M
 matches-spec =

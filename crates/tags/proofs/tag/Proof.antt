@@ -10,7 +10,8 @@ returns : tie.Need-returns
 unfolding tag
 returns c =
     let digested = c .before .before in
-    digested .digest .ensures ∙ ap digest (digested .before .before .before .before .store-message .ensures)
+    let stored = digested .before .before .before .before in
+    digested .digest .ensures ∙ ap digest (stored .store-message .ensures)
 
 pub tag-spec : {M : Type 1} → statement M
 tag-spec =

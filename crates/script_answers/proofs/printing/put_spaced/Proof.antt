@@ -6,17 +6,22 @@ use Rattle.script_answers.proofs.PrintLaw.{Spaced, spaced-put}
 use Rattle.script_answers.proofs.printing.put_spaced.Statement.{statement}
 use Rattle.script_answers.proofs.printing.put_spaced.Tie as tie
 
+-- the states on the way back: the number put, the start
+abbrev put : tie.After-slice-known2 → tie.After-put
+put c = c .before .before
+
+abbrev start : tie.After-put-arg → tie.Start
+start c = c .before .before
+
 put-requires : tie.Need-put-requires
-put-requires c κs =
-    let start = c .before .before in
-    omega (arith, decimal-size-64 (start .args .n) (start .fits .n .fits))
+put-requires c κs = omega (arith, decimal-size-64 (start c .args .n) (start c .fits .n .fits))
 
 spaced : (c : tie.After-slice-known2)
-    → Spaced (c .before .before .before .before .before .args .out .now) (c .before .before .before .before .before .args .at)
-    (c .before .before .before .before .before .args .n) (c .before .before .put .last .0) (c .before .before .put .result)
+    → let x = start (put c .before) .args in
+    Spaced (x .out .now) (x .at) (x .n) (put c .put .last .0) (put c .put .result)
 spaced c =
-    let start = c .before .before .before .before .before in
-    spaced-put _ _ _ _ _ (start .fits .n .fits) (start .pre) (c .before .before .put .ensures)
+    let entry = start (put c .before) in
+    spaced-put _ _ _ _ _ (entry .fits .n .fits) (entry .pre) (put c .put .ensures)
 
 returns : tie.Need-returns
 returns c = (spaced c .put .0, (spaced c .put .1, omega (arith, spaced c .within)))
