@@ -15,39 +15,43 @@ use Rattle.questions.proofs.RefusalLaw.{FirstSix, invalid-refused, argu
 use Rattle.questions.proofs.refusal.Statement.{statement}
 use Rattle.questions.proofs.refusal.Tie as tie
 
--- the box and the command as they are given
-abbrev box : tie.Start → Box
-box start = boxOf (start .args .memory .now) (start .args .disk .now)
+-- where it starts, before question 1 is asked
+abbrev start : tie.After-valid → tie.Start
+start c = c .before .before .before .before .before .before
 
-abbrev given : tie.Start → Command
-given start =
-    let x = start .args in
+-- the box and the command as they are given
+abbrev box : tie.After-valid → Box
+box c = boxOf (start c .args .memory .now) (start c .args .disk .now)
+
+abbrev given : tie.After-valid → Command
+given c =
+    let x = start c .args in
     commandOf 0 (x .block) (x .time) 0 (x .content .now) (x .proof .now) (x .answer .now)
 
 -- the memory's length, once question 1 has yes
-size : (c : tie.Else1) → length (c .before .before .before .before .before .before .before .args .memory .now) ≡ memorySize present
+size : (c : tie.Else1) → length (start (c .before) .args .memory .now) ≡ memorySize present
 size c = facts σ _ (sym (c .before .valid .ensures) ∙ eq-true-of-not-eq-false' (c .if1 .left)) .size
 
 invalid : tie.Need-returns
 invalid c =
-    let start = c .before .before .before .before .before .before .before in
-    invalid-refused σ (start .args .k) (box start) (given start) _ (c .before .valid .ensures) (c .if1 .taken)
+    let asked = c .before in
+    invalid-refused σ (start asked .args .k) (box asked) (given asked) _ (asked .valid .ensures) (c .if1 .taken)
 
 arguments : tie.Need-returns-2
 arguments c =
     let first = c .before .before in
-    let start = first .before .before .before .before .before .before .before in
-    arguments-refused σ (start .args .k) (box start) (given start) _ (first .before .valid .ensures) (first .if1 .left) _
+    let asked = first .before in
+    arguments-refused σ (start asked .args .k) (box asked) (given asked) _ (asked .valid .ensures) (first .if1 .left) _
     (c .before .refusal .ensures) (c .if2 .taken)
 
 -- the first six have yes
 passed : (c : tie.Else2)
-    → let start = c .before .before .before .before .before .before .before .before .before in
-    FirstSix present (start .args .k) (box start) (given start)
+    → let asked = c .before .before .before in
+    FirstSix present (start asked .args .k) (box asked) (given asked)
 passed c =
     let first = c .before .before in
-    let start = first .before .before .before .before .before .before .before in
-    first-six σ (start .args .k) (box start) (given start) _ (first .before .valid .ensures) (first .if1 .left) _ (c .before .refusal .ensures)
+    let asked = first .before in
+    first-six σ (start asked .args .k) (box asked) (given asked) _ (asked .valid .ensures) (first .if1 .left) _ (c .before .refusal .ensures)
     (omega (arith, c .if2 .left))
 
 read : tie.Need-returns-3
@@ -80,9 +84,10 @@ unknown c = nothing-left σ _ _ _ (passed (c .before .before)) Unknown (c .enum-
 
 change-requires : tie.Need-refusal-requires-2
 change-requires c κs =
-    let second = c .before .before .before in
+    let told = c .before in
+    let second = told .before .before in
     let h = passed second in
-    let e = c .before .k .given .1 in
+    let e = told .k .given .1 in
     record {
       count = record { size = size (second .before .before); group = change-group σ _ _ _ h _ e };
       time = change-early σ _ _ _ h _ e;
@@ -90,7 +95,14 @@ change-requires c κs =
     }
 
 change : tie.Need-returns-6
-change c = change-left σ _ _ _ (passed (c .before .before .before .before)) _ (c .before .before .k .given .1) _ (c .refusal2 .ensures)
+change c =
+    let told = c .before .before in
+    change-left σ _ _ _ (passed (told .before .before)) _ (told .k .given .1) _ (c .refusal2 .ensures)
+
+salt-requires : tie.Need-salt-refusal-requires
+salt-requires c κs =
+    let second = c .before .before in
+    size (second .before .before)
 
 salt : tie.Need-returns-9
 salt c = salt-left σ _ _ _ (passed (c .before .before .before)) _ (c .before .enum-told6 .given .1) (c .salt-refusal .ensures)
@@ -100,4 +112,4 @@ refusal-spec =
     tie.close
     (tie.spec (λ c κs. search needs) invalid (λ c κs. size c) arguments (λ c. search needs) (λ c. search needs) (λ c. search needs)
     (λ c. search needs) change-requires (λ c. search needs) (λ c. search needs) (λ c. search needs)
-    (λ c κs. size (c .before .before .before .before)) (λ c. search needs) (λ c. search needs) read entry page change sync restart salt identify unknown)
+    salt-requires (λ c. search needs) (λ c. search needs) read entry page change sync restart salt identify unknown)

@@ -1,6 +1,8 @@
 -- `answers::shows::current_entry` meets its contract: of the held page if the group is held, else of the disk's. Assumes nothing.
 use borrow.Author.Needs.{needs}
+use Prim.Native.Nat.{_<_}
 use native.Mathlib.Omega.{arith}
+use Rattle.lockpage.specs.Geometry.{present}
 use Rattle.lockpage.proofs.GeometryLaw.{present-proper as σ}
 use Rattle.addressing.proofs.MapLaw.{placeOf-below}
 use Rattle.disk.proofs.LentLaw.{has-computed}
@@ -8,19 +10,22 @@ use Rattle.answers.proofs.ShowLaw.{entry-held, entry-other}
 use Rattle.answers.proofs.shows.current_entry.Statement.{statement}
 use Rattle.answers.proofs.shows.current_entry.Tie as tie
 
+-- where it starts, before the block's place is found
+abbrev start : tie.After-place-of → tie.Start
+start c = c .before .before .before .before
+
+place-small : (c : tie.After-place-of) → c .place-of .result < present .entries
+place-small c = omega (arith, c .place-of .ensures, placeOf-below σ (start c .args .block))
+
 load-entry-requires : tie.Need-load-entry-requires
 load-entry-requires c κs =
     let placed = c .before .before in
-    let start = placed .before .before .before .before in
-    (start .pre .0, omega (arith, placed .place-of .ensures, placeOf-below σ (start .args .block)))
+    (start placed .pre .0, place-small placed)
 
 load-entry-requires-2 : tie.Need-load-entry-requires-2
 load-entry-requires-2 c κs =
     let placed = c .before .before in
-    let start = placed .before .before .before .before in (
-      has-computed σ _ _ _ (start .pre .1) (placed .before .group-of .ensures),
-      omega (arith, placed .place-of .ensures, placeOf-below σ (start .args .block)),
-    )
+    (has-computed σ _ _ _ (start placed .pre .1) (placed .before .group-of .ensures), place-small placed)
 
 returns : tie.Need-returns
 returns c =

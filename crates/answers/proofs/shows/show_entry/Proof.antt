@@ -8,11 +8,15 @@ use Rattle.answers.proofs.ShowLaw.{entry-outcome}
 use Rattle.answers.proofs.shows.show_entry.Statement.{statement}
 use Rattle.answers.proofs.shows.show_entry.Tie as tie
 
+-- where it starts, before the last time is set
+abbrev start : tie.After-set-last-time-arg → tie.Start
+start c = c .before .before .before .before
+
 current-entry-requires : tie.Need-current-entry-requires
 current-entry-requires c κs =
     let kept = c .before .before in
-    let start = kept .before .before .before .before .before .before in
-    (kept .memory .given ∙ facts σ _ (start .pre .box .memory) .size, hasGroup-of σ _ _ _ (start .pre .box .disk) (start .pre .block))
+    let ready = start (kept .before .before) .pre in
+    (kept .memory .given ∙ facts σ _ (ready .box .memory) .size, hasGroup-of σ _ _ _ (ready .box .disk) (ready .block))
 
 returns : tie.Need-returns
 returns c =
@@ -24,5 +28,5 @@ returns c =
 pub show-entry-spec : {M : Type 1} → statement M
 show-entry-spec =
     tie.close
-    (tie.spec (λ c κs. facts σ _ (c .before .before .before .before .pre .box .memory) .size) current-entry-requires (λ c κs. search needs)
+    (tie.spec (λ c κs. facts σ _ (start c .pre .box .memory) .size) current-entry-requires (λ c κs. search needs)
     (λ c. search needs) (λ c. search needs) returns)

@@ -9,34 +9,44 @@ use Rattle.answers.proofs.ShowLaw.{page-outcome}
 use Rattle.answers.proofs.shows.show_page.Statement.{statement}
 use Rattle.answers.proofs.shows.show_page.Tie as tie
 
+-- the states on the way back: the page copied, the memory with its last time set, the start
+abbrev copied : tie.After-store-tag-arg2 → tie.After-copy-current
+copied c = c .before .before .before .before
+
+abbrev kept : tie.After-copy-current → tie.After-memory
+kept c = c .before .before .before .before
+
+abbrev start : tie.After-set-last-time-arg → tie.Start
+start c = c .before .before .before .before
+
 copy-current-requires : tie.Need-copy-current-requires
 copy-current-requires c κs =
-    let kept = c .before .before .before in
-    let start = kept .before .before .before .before .before .before in
+    let memory = c .before .before .before in
+    let ready = start (memory .before .before) .pre in
     record {
-      memory-size = kept .memory .given ∙ facts σ _ (start .pre .box .memory) .size;
-      group = hasGroup σ _ _ _ (start .pre .box .disk) (start .pre .group);
+      memory-size = memory .memory .given ∙ facts σ _ (ready .box .memory) .size;
+      group = hasGroup σ _ _ _ (ready .box .disk) (ready .group);
       page-size = search needs;
     }
 
 store-tag-requires : tie.Need-store-tag-requires
 store-tag-requires c κs =
-    let kept = c .before .before .before .before .before .before .before .before in
-    let start = kept .before .before .before .before .before .before in
-    let v = facts σ _ (start .pre .box .memory) in
-    (record { size = kept .memory .given ∙ v .size; group = omega (arith, v .most, start .pre .group) }, search needs)
+    let memory = kept (copied c) in
+    let ready = start (memory .before .before) .pre in
+    let v = facts σ _ (ready .box .memory) in
+    (record { size = memory .memory .given ∙ v .size; group = omega (arith, v .most, ready .group) }, search needs)
 
 returns : tie.Need-returns
 returns c =
     let tagged = c .before .before in
-    let copied = tagged .before .before .before .before .before in
-    let timed = copied .before .before .before .before .before in
-    let start = timed .before .before .before .before .before in
-    page-outcome σ _ _ _ _ (timed .set-last-time .ensures) (start .args .answer .now) _ _ _ (facts σ _ (start .pre .box .memory) .size)
-    (omega (arith, start .fits .time)) (start .pre .box .disk) (start .pre .group) (copied .copy-current .ensures) (tagged .store-tag .ensures)
+    let page = copied (tagged .before) in
+    let timed = kept page .before in
+    let ready = start (timed .before) .pre in
+    page-outcome σ _ _ _ _ (timed .set-last-time .ensures) (start (timed .before) .args .answer .now) _ _ _ (facts σ _ (ready .box .memory) .size)
+    (omega (arith, start (timed .before) .fits .time)) (ready .box .disk) (ready .group) (page .copy-current .ensures) (tagged .store-tag .ensures)
 
 pub show-page-spec : {M : Type 1} → statement M
 show-page-spec =
     tie.close
-    (tie.spec (λ c κs. facts σ _ (c .before .before .before .before .pre .box .memory) .size) (λ c. search needs) (λ c. search needs)
+    (tie.spec (λ c κs. facts σ _ (start c .pre .box .memory) .size) (λ c. search needs) (λ c. search needs)
     (λ c. search needs) copy-current-requires store-tag-requires (λ c. search needs) (λ c. search needs) returns)
