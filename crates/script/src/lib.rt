@@ -1,8 +1,5 @@
 // The script program's library: a script is read piece by piece, and the pieces print what script_printout's definitions say of the
 // whole. The caller keeps the reader and the box between the pieces, and reads and writes the descriptors.
-mod reading;
-mod texts;
-
 ghost use mathlib.Core.Path.{_≡_};
 ghost use Prim.Native.Nat.{_≤_};
 ghost use lib.ListN.{length};
@@ -64,7 +61,7 @@ pub fn feed(
     };
     let mut i = 0;
     while i < piece.len() {
-        p = reading::read_byte(p.reader, memory, disk, piece[i], out, p.end);
+        p = script_bytes::read_byte(p.reader, memory, disk, piece[i], out, p.end);
         i += 1;
     }
     Fed {
@@ -95,6 +92,6 @@ pub fn finish(
     }
     Fed {
         taken: true,
-        progress: reading::end_input(reader, memory, disk, out),
+        progress: script_bytes::end_input(reader, memory, disk, out),
     }
 }
