@@ -10,15 +10,22 @@ use Rattle.machine.proofs.FormatLaw.{Formattable, formattable, formatting-accep
 use Rattle.controller.proofs.format.Statement.{statement}
 use Rattle.controller.proofs.format.Tie as tie
 
+-- the states on the way back: the memory formatted, the start
+abbrev formatted : tie.After-store-blank-pages-arg → tie.After-format
+formatted c = c .before .before .before
+
+abbrev start : tie.After-format-refusal → tie.Start
+start c = c .before .before .before .before .before .before
+
 -- what the questions have seen to
 known : (c : tie.Else1)
-    → let x = c .before .before .before .before .before .before .before .args in
+    → let x = start (c .before) .args in
     Formattable present (boxOf (x .memory .now) (x .disk .now)) (x .groups) (x .salt .now)
 known c = formattable σ _ _ _ (sym (c .before .format-refusal .ensures) ∙ omega (arith, c .if1 .left))
 
 refused : tie.Need-returns
 refused c =
-    let x = c .before .before .before .before .before .before .before .args in
+    let x = start (c .before) .args in
     formatting-refused σ (boxOf (x .memory .now) (x .disk .now)) (x .groups) (x .salt .now) _ (c .before .format-refusal .ensures) (c .if1 .taken)
 
 format-requires : tie.Need-format-requires
@@ -28,15 +35,15 @@ format-requires c κs =
 
 store-requires : tie.Need-store-blank-pages-requires
 store-requires c κs =
-    let k = known (c .before .before .before .before .before) in
+    let k = known (formatted c .before .before) in
     (k .disk, k .most)
 
 accepted : tie.Need-returns-2
 accepted c =
     let stored = c .before .before in
-    let made = stored .before .before .before .before in
+    let made = formatted (stored .before) in
     let asked = made .before .before in
-    let x = asked .before .before .before .before .before .before .before .args in
+    let x = start (asked .before) .args in
     formatting-accepted σ (boxOf (x .memory .now) (x .disk .now)) (x .groups) (x .salt .now) _ _
     (sym (asked .before .format-refusal .ensures) ∙ omega (arith, asked .if1 .left)) (made .format .ensures) (stored .store-blank-pages .ensures)
 

@@ -13,32 +13,40 @@ use Rattle.validity.proofs.CheckLaw.{Passed, counts-used, counts-unused
 use Rattle.validity.proofs.valid.Statement.{statement}
 use Rattle.validity.proofs.valid.Tie as tie
 
+-- the states on the way back: the unused counts placed, the groups read, the start
+abbrev placed : tie.Else6 → tie.After-count-start
+placed c = c .before .before .before .before
+
+abbrev grouped : tie.After-count-start → tie.After-groups
+grouped c = c .before .before .before .before .before
+
+abbrev start : tie.After-groups → tie.Start
+start c = c .before .before .before
+
 -- the memory, its groups, and where the counts that no group has start
 abbrev bytes : tie.After-count-start → List ℕ
-bytes c = c .before .before .before .before .before .before .before .before .args .memory .now
+bytes c = start (grouped c) .args .memory .now
 
-groups-read : (c : tie.After-count-start) → c .before .before .before .before .before .groups .result ≡ groups present (bytes c)
-groups-read c = c .before .before .before .before .before .groups .ensures
+groups-read : (c : tie.After-count-start) → grouped c .groups .result ≡ groups present (bytes c)
+groups-read c = grouped c .groups .ensures
 
 unused-start : (c : tie.After-count-start) → c .count-start .result ≡ countStart (groups present (bytes c))
 unused-start c = c .count-start .ensures ∙ ap (λ (g : ℕ). countStart g) (groups-read c)
 
 -- how many words they are
 unused-size : (c : tie.After-count-start)
-    → 4 * (present .mostGroups - c .before .before .before .before .before .groups .result) ≡ timeStart present - countStart (groups present (bytes c))
+    → 4 * (present .mostGroups - grouped c .groups .result) ≡ timeStart present - countStart (groups present (bytes c))
 unused-size c = omega (arith, groups-read c, c .before .before .before .if3 .left)
 
 unused : tie.Need-returns-5
 unused c =
-    let placed = c .before .before in
-    counts-used σ _ _ _ _ (unused-start placed) (unused-size placed) (c .before .zero-words .ensures) (c .if5 .taken)
+    counts-used σ _ _ _ _ (unused-start (c .before .before)) (unused-size (c .before .before)) (c .before .zero-words .ensures) (c .if5 .taken)
 
 -- the clauses on all but the held group, once they are passed
-passed : (c : tie.Else6) → Passed present (bytes (c .before .before .before .before))
+passed : (c : tie.Else6) → Passed present (bytes (placed c))
 passed c =
     let five = c .before .before in
-    let placed = five .before .before in
-    let four = placed .before in
+    let four = placed c .before in
     let three = four .before .before in
     let two = three .before in
     let groups = two .before .groups .ensures in
@@ -47,7 +55,7 @@ passed c =
       least = omega (arith, two .if2 .left, groups);
       most = omega (arith, three .if3 .left, groups);
       time = omega (arith, four .if4 .left, four .before .last-time .ensures);
-      unused = counts-unused σ _ _ _ _ (unused-start placed) (unused-size placed) (five .before .zero-words .ensures) (five .if5 .left);
+      unused = counts-unused σ _ _ _ _ (unused-start (placed c)) (unused-size (placed c)) (five .before .zero-words .ensures) (five .if5 .left);
       reserved = reserved-zero σ _ _ (c .before .filled .ensures) (c .if6 .left);
     }
 
@@ -60,22 +68,19 @@ page c =
 out : tie.Need-returns-8
 out c =
     let held = c .before .before in
-    let placed = held .before .before .before .before .before in
-    held-out σ _ _ (held .held .ensures) (c .before .if7 .left) _ (groups-read placed) (omega (arith, c .if8 .taken))
+    held-out σ _ _ (held .held .ensures) (c .before .if7 .left) _ (groups-read (placed (held .before))) (omega (arith, c .if8 .taken))
 
 uncounted : tie.Need-returns-9
 uncounted c =
-    let held = c .before .before .before .before in
-    let some = c .before .before .before .if7 .left in
-    held-uncounted σ _ _ (held .held .ensures) some _ (c .before .count .ensures) (omega (arith, c .if9 .taken))
+    let seven = c .before .before .before in
+    held-uncounted σ _ _ (seven .before .held .ensures) (seven .if7 .left) _ (c .before .count .ensures) (omega (arith, c .if9 .taken))
 
 count : tie.Need-returns-10
 count c =
     let eight = c .before .before in
     let held = eight .before .before in
-    let placed = held .before .before .before .before .before in
     count-decides σ _ (passed (held .before)) _ _ (held .held .ensures) (eight .before .if7 .left)
-    (omega (arith, eight .if8 .left, groups-read placed)) (c .before .count .ensures) (omega (arith, c .if9 .left))
+    (omega (arith, eight .if8 .left, groups-read (placed (held .before)))) (c .before .count .ensures) (omega (arith, c .if9 .left))
 
 pub valid-spec : {M : Type 1} → statement M
 valid-spec =

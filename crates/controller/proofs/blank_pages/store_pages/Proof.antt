@@ -21,13 +21,16 @@ Inv-loop disk₀ groups page g₀ disk g = (g ≤ groups) × ((length disk ≡ d
 abbrev μ-loop : tie.MeasureT-loop
 μ-loop disk₀ groups page g₀ disk g = groups - g
 
+-- where it starts, before the loop
+abbrev start : tie.At-loop Inv-loop μ-loop → tie.Start Inv-loop μ-loop
+start c = c .before .before .before
+
 store-page-requires : tie.Need-store-page-requires Inv-loop μ-loop
 store-page-requires c κs =
     let test = c .before in
-    let loop = test .before in
-    let start = loop .before .before .before in (
-      hasGroup σ (loop .loop .disk) (start .args .groups) (loop .loop .g) (loop .loop .inv .1 .0) (omega (arith, test .loop-test .taken)),
-      ap length (start .pre .blank) ∙ blankPage-length σ,
+    let loop = test .before in (
+      hasGroup σ (loop .loop .disk) (start loop .args .groups) (loop .loop .g) (loop .loop .inv .1 .0) (omega (arith, test .loop-test .taken)),
+      ap length (start loop .pre .blank) ∙ blankPage-length σ,
     )
 
 loop-again : tie.Need-loop-again Inv-loop μ-loop
@@ -35,8 +38,7 @@ loop-again c =
     let stored = c .before .before in
     let test = stored .before .before in
     let loop = test .before in
-    let start = loop .before .before .before in
-    let page = start .pre .blank in (
+    let page = start loop .pre .blank in (
       omega (arith, test .loop-test .taken),
       (
         page-fits σ _ _ _ _ _ (loop .loop .inv .1 .0) (omega (arith, test .loop-test .taken)) page (stored .store-page .ensures),
@@ -52,5 +54,5 @@ returns c =
 pub store-pages-spec : {M : Type 1} → statement M
 store-pages-spec =
     tie.close
-    (tie.spec Inv-loop μ-loop (λ c. (search needs, (c .before .before .pre .disk-size, pages-start σ _))) store-page-requires (λ c. search needs) (λ c. search needs)
-    loop-again (λ c. c .before .loop .inv .1 .0 ∙ sym (c .before .before .before .before .pre .disk-size)) returns)
+    (tie.spec Inv-loop μ-loop (λ c. (search needs, (c .before .before .pre .disk-size, pages-start σ _))) store-page-requires (λ c. search needs)
+    (λ c. search needs) loop-again (λ c. c .before .loop .inv .1 .0 ∙ sym (start (c .before) .pre .disk-size)) returns)
