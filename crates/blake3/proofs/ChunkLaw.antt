@@ -17,8 +17,8 @@ block-within n k h = omega arith
 
 -- the chaining value after one block more
 pub chain-step : (s : List ℕ) (t first last n k b d : ℕ) (h h' m : List ℕ) → n ≡ B.blocks (length s) → h ≡ B.chain s t first last k
-    → m ≡ B.message (part s (B.blockSize * k) B.blockSize) → b ≡ min B.blockSize (length s - B.blockSize * k) → d ≡ B.flags first last n k → h' ≡ compress h m t b d
-    → h' ≡ B.chain s t first last (k + 1)
+    → m ≡ B.message (part s (B.blockSize * k) B.blockSize) → b ≡ min B.blockSize (length s - B.blockSize * k)
+    → d ≡ B.flags first last n k → h' ≡ compress h m t b d → h' ≡ B.chain s t first last (k + 1)
 unfolding B.chain B.block
 chain-step s t first last n k b d h h' m en eh em eb ed e =
     let size : b ≡ length (part s (B.blockSize * k) B.blockSize) = eb ∙ sym (part-length-min s (B.blockSize * k) B.blockSize) in

@@ -7,6 +7,7 @@ ghost use Prim.Native.Nat.{_+_, _-_, _≤_, _<_, min};
 ghost use lib.ListN.{length, drop};
 ghost use Rattle.octets.specs.Part.{part};
 ghost use Rattle.blake3.specs.Blake3 as B;
+ghost use Rattle.blake3.specs.Ready.{ChunkReady};
 
 pub(crate) const BLOCK: usize = 64;
 
@@ -88,7 +89,7 @@ fn flags(first: u32, last: u32, n: usize, k: usize) -> u32
 // The chaining value after all blocks of s, whose counter is t. It is the one place that compresses, a chunk's blocks
 // and a parent's: so the compression is compiled in place, and the chaining value stays in registers.
 pub(crate) fn chain(s: &[u8], t: u32, first: u32, last: u32) -> [u32; 8]
-    requires { ⌜ (length (now s) ≤ B.chunkSize) × (first < 16) × (last < 16) ⌝ }
+    requires { ⌜ ChunkReady (now s) first last ⌝ }
     ensures { λ r. ⌜ r ≡ B.chain (now (s .entry)) t first last (B.blocks (length (now (s .entry)))) ⌝ }
 {
     let mut h = IV;

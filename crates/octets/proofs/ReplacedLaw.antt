@@ -167,7 +167,8 @@ replaced-next l prev front new r at ep ea h er =
 pub replaced-end : (l : List ℕ) (at : ℕ) (new : List ℕ) → at + length new ≡ length l → replaced l at new ≡ part l 0 at ++ new
 unfolding replaced part
 replaced-end l at new e =
-    ap (λ (x : List ℕ). take at l ++ (new ++ x)) (drop-of-length-le l {i = at + length new} (omega arith)) ∙ ap (λ (x : List ℕ). take at l ++ x) (append-nil new)
+    ap (λ (x : List ℕ). take at l ++ (new ++ x)) (drop-of-length-le l {i = at + length new} (omega arith))
+    ∙ ap (λ (x : List ℕ). take at l ++ x) (append-nil new)
 
 -- all of a list copied
 pub all-copied : (l new r : List ℕ) (at n : ℕ) → length new ≡ n → r ≡ replaced l at (part new 0 n) → r ≡ replaced l at new

@@ -6,7 +6,8 @@ use Rattle.blake3_round.proofs.diagonals.Tie as tie
 
 returns : tie.Need-returns
 returns c =
-    diagonals-of _ _ _ (c .before .before .before .before .before .before .before .before .before .before .before .before .before .before .before .before .mix .ensures)
+    let mixed = c .before .before .before .before .before .before .before .before .before .before .before .before .before .before .before .before in
+    diagonals-of _ _ _ (mixed .mix .ensures)
 
 pub diagonals-spec : {M : Type 1} → statement M
 diagonals-spec =

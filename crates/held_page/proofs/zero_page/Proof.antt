@@ -10,7 +10,8 @@ returns : tie.Need-returns
 unfolding repeated
 returns c =
     let copied = c .before .before in
-    zeros-stored σ _ _ (copied .before .before .before .before .pre) (copied .copy .ensures)
+    let start = copied .before .before .before .before in
+    zeros-stored σ _ _ (start .pre) (copied .copy .ensures)
 
 pub zero-page-spec : {M : Type 1} → statement M
 zero-page-spec = tie.close (tie.spec (λ c. search needs) (λ c κs. search needs) (λ c. search needs) returns)

@@ -6,12 +6,11 @@ use Rattle.octets.proofs.load_u32.Tie as tie
 
 returns : tie.Need-returns
 returns c =
-    let start = c .before .before .before .before .before .before .before .before .before in
-    number-of-four _ _ _ _ _ _ (start .pre)
-    (c .before .before .before .before .before .before .wide .ensures .0)
-    (c .before .before .before .before .wide2 .ensures .0)
-    (c .before .before .wide3 .ensures .0)
-    (c .wide4 .ensures .0)
+    let third = c .before .before in
+    let second = third .before .before in
+    let first = second .before .before in
+    let start = first .before .before .before in
+    number-of-four _ _ _ _ _ _ (start .pre) (first .wide .ensures .0) (second .wide2 .ensures .0) (third .wide3 .ensures .0) (c .wide4 .ensures .0)
 
 pub load-u32-spec : {M : Type 1} → statement M
 load-u32-spec =

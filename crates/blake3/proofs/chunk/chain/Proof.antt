@@ -15,32 +15,37 @@ Inv-loop s t first last h₀ n k₀ h k = (k ≤ n) × (n ≡ B.blocks (length s
 abbrev μ-loop : tie.MeasureT-loop
 μ-loop s t first last h₀ n k₀ h k = n - k
 
+-- where it starts, once in the loop
+abbrev start : tie.At-loop Inv-loop μ-loop → tie.Start Inv-loop μ-loop
+start c = c .before .before .before
+
 loop-holds : tie.Need-loop-holds Inv-loop μ-loop
 unfolding B.chain
 loop-holds c = (search needs, c .blocks2 .ensures, refl)
 
-within : (c : tie.In-loop Inv-loop μ-loop) → B.blockSize * c .before .loop .k ≤ length (c .before .before .before .before .args .s .now)
+within : (c : tie.In-loop Inv-loop μ-loop) → B.blockSize * c .before .loop .k ≤ length (start (c .before) .args .s .now)
 within c =
     let loop = c .before in
     block-within _ _ (omega (arith, c .loop-test .taken, loop .loop .inv .1))
 
 loop-again : tie.Need-loop-again Inv-loop μ-loop
 loop-again c =
-    let looked = c .before .before .before .before in
-    let inv = looked .before .loop .inv in (
+    let flagged = c .before in
+    let sized = flagged .before in
+    let read = sized .before in
+    let inv = read .before .before .loop .inv in (
       search needs,
       inv .1,
-      chain-step _ _ _ _ _ _ _ _ _ _ _ (inv .1) (inv .2) (c .before .before .before .message .ensures) (c .before .before .block-len .ensures)
-          (c .before .flags .ensures)
+      chain-step _ _ _ _ _ _ _ _ _ _ _ (inv .1) (inv .2) (read .message .ensures) (sized .block-len .ensures) (flagged .flags .ensures)
           (c .compress .ensures),
     )
 
 returns : tie.Need-returns Inv-loop μ-loop
 returns c =
     let inv = c .before .loop .inv in
-    let start = c .before .before .before .before in
-    let all : c .before .loop .k ≡ B.blocks (length (start .args .s .now)) = omega (arith, c .loop-test .left, inv .0, inv .1) in
-    inv .2 ∙ ap (B.chain (start .args .s .now) (start .args .t) (start .args .first) (start .args .last)) all
+    let x = start (c .before) .args in
+    let all : c .before .loop .k ≡ B.blocks (length (x .s .now)) = omega (arith, c .loop-test .left, inv .0, inv .1) in
+    inv .2 ∙ ap (B.chain (x .s .now) (x .t) (x .first) (x .last)) all
 
 pub chain-spec : {M : Type 1} → statement M
 chain-spec =

@@ -14,8 +14,17 @@ Inv-loop out₀ at h i₀ out i = (i ≤ 8) × Stored out₀ at h i out
 abbrev μ-loop : tie.MeasureT-loop
 μ-loop out₀ at h i₀ out i = 8 - i
 
-eight : (c : tie.At-loop Inv-loop μ-loop) → length (c .before .before .args .t3) ≡ 8
-eight c = c .before .before .good .1 .1 .0 .1 .0 .1
+-- where it starts, once in the loop
+abbrev start : tie.At-loop Inv-loop μ-loop → tie.Start Inv-loop μ-loop
+start c = c .before .before
+
+eight : (c : tie.At-loop Inv-loop μ-loop) → length (start c .args .t3) ≡ 8
+eight c = start c .good .1 .1 .0 .1 .0 .1
+
+store-u32-requires : tie.Need-store-u32-requires Inv-loop μ-loop
+store-u32-requires c κs =
+    let loop = c .before .before in
+    omega (arith, loop .loop .inv .1 .size, start loop .pre)
 
 loop-again : tie.Need-loop-again Inv-loop μ-loop
 loop-again c =
@@ -24,7 +33,7 @@ loop-again c =
     let loop = looked .before in (
       search needs,
       stored-step _ _ _ _ _ _ (loop .loop .inv .1) (omega (arith, eight loop, looked .loop-test .taken))
-          (omega (arith, eight loop, loop .before .before .pre))
+          (omega (arith, eight loop, start loop .pre))
           (stored .store-u32 .ensures)
           (stored .store-u32 .kept .0),
     )
@@ -39,5 +48,4 @@ store-words-spec =
     tie.close
     (tie.spec Inv-loop μ-loop (λ c. (search needs, stored-start _ _ _)) (λ c. search needs) (λ c. search needs)
     (λ c. search needs) (λ c. search needs)
-    (λ c κs. omega (arith, c .before .before .loop .inv .1 .size, c .before .before .before .before .pre)) (λ c. search needs)
-    (λ c. search needs) loop-again (λ c. c .before .loop .inv .1 .size) returns)
+    store-u32-requires (λ c. search needs) (λ c. search needs) loop-again (λ c. c .before .loop .inv .1 .size) returns)

@@ -11,17 +11,21 @@ use Rattle.disk.proofs.LentLaw.{block-filled}
 use Rattle.disk.proofs.group.store_block.Statement.{statement}
 use Rattle.disk.proofs.group.store_block.Tie as tie
 
+-- where it starts, once the place's first byte is found
+abbrev start : tie.After-block-start → tie.Start
+start c = c .before .before .before
+
 -- the block's end in the extent
-ends : (c : tie.After-block-start) → c .block-start .result + blockSize present ≤ length (c .before .before .before .args .group .now)
+ends : (c : tie.After-block-start) → c .block-start .result + blockSize present ≤ length (start c .args .group .now)
 ends c =
-    let start = c .before .before .before in
-    omega (arith, c .block-start .ensures, start .pre .extent-size, blockStart-place σ _ (start .pre .inside))
+    let ready = start c .pre in
+    omega (arith, c .block-start .ensures, ready .extent-size, blockStart-place σ _ (ready .inside))
 
 returns : tie.Need-returns
 returns c =
     let copied = c .before .before in
     let started = copied .before .before in
-    block-filled σ _ _ _ _ _ (started .before .before .before .pre .block-size) (ends started) (started .block-start .ensures) (copied .copy .ensures)
+    block-filled σ _ _ _ _ _ (start started .pre .block-size) (ends started) (started .block-start .ensures) (copied .copy .ensures)
 
 pub store-block-spec : {M : Type 1} → statement M
 store-block-spec =

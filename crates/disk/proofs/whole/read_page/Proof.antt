@@ -10,20 +10,25 @@ use Rattle.disk.proofs.LentLaw.{cut-length, block-read}
 use Rattle.disk.proofs.whole.read_page.Statement.{statement}
 use Rattle.disk.proofs.whole.read_page.Tie as tie
 
+-- where it starts, once the group's extent is cut
+abbrev start : tie.After-extent → tie.Start
+start c = c .before .before .before
+
 read-block-requires : tie.Need-read-block-requires
 read-block-requires c κs =
-    let start = c .before .before .before .before in
+    let cut = c .before in
+    let ready = start cut .pre in
     record {
-      extent-size = cut-length σ _ _ _ _ (start .pre .0) refl (c .before .extent .ensures);
+      extent-size = cut-length σ _ _ _ _ (ready .0) refl (cut .extent .ensures);
       inside = omega arith;
-      block-size = start .pre .1;
+      block-size = ready .1;
     }
 
 returns : tie.Need-returns
 returns c =
     let called = c .before .before in
     let cut = called .before .before in
-    block-read σ _ _ _ _ (cut .before .before .before .pre .0) refl (cut .extent .ensures) _ (pagePlace present) _ (omega arith) (pageBlock-place σ _)
+    block-read σ _ _ _ _ (start cut .pre .0) refl (cut .extent .ensures) _ (pagePlace present) _ (omega arith) (pageBlock-place σ _)
     (called .read-block .ensures)
 
 pub read-page-spec : {M : Type 1} → statement M
