@@ -9,3 +9,9 @@ pub record ChunkReady (s : List ℕ) (first last : ℕ) : Type 0 where
   pub size : length s ≤ chunkSize
   pub first-flags : first < 16
   pub last-flags : last < 16
+
+-- the same flags, and block k of the chunk's n
+pub record FlagsReady (first last n k : ℕ) : Type 0 where
+  pub first-flags : first < 16
+  pub last-flags : last < 16
+  pub block : k < n

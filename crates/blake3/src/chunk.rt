@@ -7,7 +7,7 @@ ghost use Prim.Native.Nat.{_+_, _-_, _≤_, _<_, min};
 ghost use lib.ListN.{length, drop};
 ghost use Rattle.octets.specs.Part.{part};
 ghost use Rattle.blake3.specs.Blake3 as B;
-ghost use Rattle.blake3.specs.Ready.{ChunkReady};
+ghost use Rattle.blake3.specs.Ready.{ChunkReady, FlagsReady};
 
 pub(crate) const BLOCK: usize = 64;
 
@@ -74,7 +74,7 @@ fn block_len(n: usize) -> u32
 
 // The flags of block k of n.
 fn flags(first: u32, last: u32, n: usize, k: usize) -> u32
-    requires { ⌜ (first < 16) × (last < 16) × (k < n) ⌝ }
+    requires { ⌜ FlagsReady first last n k ⌝ }
     ensures { λ r. ⌜ r ≡ B.flags first last n k ⌝ }
 {
     if k == 0 {

@@ -1,3 +1,2 @@
 -- The laws that proofs cite.
 pub mod CommandLaw
-pub mod FormatLaw

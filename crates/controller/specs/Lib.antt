@@ -1,2 +1,1 @@
--- What formatting takes for granted; the contracts cite the definitions of machine.
-pub mod Ready
+-- No definitions of its own: the contracts cite those of machine.

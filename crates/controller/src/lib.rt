@@ -1,20 +1,15 @@
-// The controller: commands and formatting. No call has a precondition, and the contracts fix the number answered and every
-// byte of memory, disk and answer by the definitions of machine.
-mod blank_pages;
-
+// The controller: the questions that a command is asked, then its kind carried out. `command` has no precondition, and its contract
+// fixes the number answered and every byte of memory, disk and answer by the definitions of machine.
 ghost use mathlib.Core.Path.{_≡_};
 ghost use Rattle.lockpage.specs.Geometry.{present};
 ghost use Rattle.machine.specs.Question.{questionsTo, firstNo};
 ghost use Rattle.machine.specs.Effect.{effect};
 ghost use Rattle.machine.specs.Step.{accepted, step};
-ghost use Rattle.machine.specs.Format.{formatQuestions};
-ghost use Rattle.machine.specs.Format as F;
-ghost use Rattle.machine.specs.Call.{boxAt, commandAt, outcomeAt, formatOutcomeAt};
+ghost use Rattle.machine.specs.Call.{boxAt, commandAt, outcomeAt};
 use answers::shows;
 use effects::changes;
 use effects::upkeep;
 use machine::Kind;
-use memory::layout;
 
 // Carries out a command of kind k that no question refuses. Of the command's own kind and value the effects look only at k.
 fn carry_out(
@@ -68,40 +63,4 @@ pub fn command(
     }
     carry_out(memory, disk, k, block, time, content, proof, answer);
     number
-}
-
-// The number of the first question that says no to formatting, or 0: the groups and the memory's size, the disk, the salt.
-fn format_refusal(memory: &[u8], disk: &[u8], groups: u32, salt: &[u8]) -> u32
-    ensures { λ r. ⌜ r ≡ firstNo (formatQuestions present (boxAt (memory .entry) (disk .entry)) groups (now (salt .entry))) ⌝ }
-{
-    if groups < 1 {
-        return machine::MEMORY_INVALID;
-    }
-    if layout::MOST_GROUPS < groups {
-        return machine::MEMORY_INVALID;
-    }
-    if memory.len() != layout::MEMORY_SIZE {
-        return machine::MEMORY_INVALID;
-    }
-    if disk.len() != addressing::disk_size(groups) {
-        return machine::DISK_SIZE_WRONG;
-    }
-    if salt.len() != layout::SALT_SIZE {
-        return machine::LENGTH_WRONG;
-    }
-    machine::ACCEPTED
-}
-
-// Formats a box: its number; where that is not 0, no byte is changed.
-pub fn format(memory: &mut [u8], disk: &mut [u8], groups: u32, salt: &[u8]) -> u32
-    ensures { λ r. ⌜ formatOutcomeAt r (memory .exit) (disk .exit)
-        ≡ F.format present (boxAt (memory .entry) (disk .entry)) groups (now (salt .entry)) ⌝ }
-{
-    let refusal = format_refusal(memory, disk, groups, salt);
-    if refusal != machine::ACCEPTED {
-        return refusal;
-    }
-    memory::format(memory, groups, salt);
-    blank_pages::store_blank_pages(disk, groups);
-    machine::ACCEPTED
 }

@@ -26,7 +26,7 @@ pub fn begin(memory: &mut [u8; MEMORY_SIZE], disk: &mut [u8; GROUP_SIZE]) -> Rea
     ensures { λ r. ⌜ (r ≡ begun) × (boxAt (memory .exit) (disk .exit) ≡ scriptBox (boxAt (memory .entry) (disk .entry))) ⌝ }
 {
     let salt = [0u8; SALT_SIZE];
-    controller::format(memory, disk, 1, &salt);
+    formatter::format(memory, disk, 1, &salt);
     Reader {
         number: 1,
         stage: Stage::Header(0),

@@ -66,5 +66,5 @@ pub extern "C" fn sockjade_format(
     ensures { λ r. ⌜ formatOutcomeAt r (memory .exit) (disk .exit)
         ≡ format present (boxAt (memory .entry) (disk .entry)) groups (now (salt .entry)) ⌝ }
 {
-    controller::format(memory, disk, groups, salt)
+    formatter::format(memory, disk, groups, salt)
 }

@@ -1,4 +1,4 @@
--- `controller::format` meets its contract: refused by its questions, or the memory formatted and the blank pages stored. Assumes
+-- `formatter::format` meets its contract: refused by its questions, or the memory formatted and the blank pages stored. Assumes
 -- nothing.
 use borrow.Author.Needs.{needs}
 use mathlib.Core.Path.{sym, _∙_}
@@ -7,26 +7,26 @@ use Rattle.lockpage.specs.Geometry.{present}
 use Rattle.lockpage.proofs.GeometryLaw.{present-proper as σ}
 use Rattle.machine.specs.Command.{boxOf}
 use Rattle.machine.proofs.FormatLaw.{Formattable, formattable, formatting-accepted, formatting-refused}
-use Rattle.controller.proofs.format.Statement.{statement}
-use Rattle.controller.proofs.format.Tie as tie
+use Rattle.formatter.proofs.format.Statement.{statement}
+use Rattle.formatter.proofs.format.Tie as tie
 
 -- the states on the way back: the memory formatted, the start
 abbrev formatted : tie.After-store-blank-pages-arg → tie.After-format
 formatted c = c .before .before .before
 
-abbrev start : tie.After-format-refusal → tie.Start
+abbrev start : tie.After-refusal → tie.Start
 start c = c .before .before .before .before .before .before
 
 -- what the questions have seen to
 known : (c : tie.Else1)
     → let x = start (c .before) .args in
     Formattable present (boxOf (x .memory .now) (x .disk .now)) (x .groups) (x .salt .now)
-known c = formattable σ _ _ _ (sym (c .before .format-refusal .ensures) ∙ omega (arith, c .if1 .left))
+known c = formattable σ _ _ _ (sym (c .before .refusal .ensures) ∙ omega (arith, c .if1 .left))
 
 refused : tie.Need-returns
 refused c =
     let x = start (c .before) .args in
-    formatting-refused σ (boxOf (x .memory .now) (x .disk .now)) (x .groups) (x .salt .now) _ (c .before .format-refusal .ensures) (c .if1 .taken)
+    formatting-refused σ (boxOf (x .memory .now) (x .disk .now)) (x .groups) (x .salt .now) _ (c .before .refusal .ensures) (c .if1 .taken)
 
 format-requires : tie.Need-format-requires
 format-requires c κs =
@@ -45,7 +45,7 @@ accepted c =
     let asked = made .before .before in
     let x = start (asked .before) .args in
     formatting-accepted σ (boxOf (x .memory .now) (x .disk .now)) (x .groups) (x .salt .now) _ _
-    (sym (asked .before .format-refusal .ensures) ∙ omega (arith, asked .if1 .left)) (made .format .ensures) (stored .store-blank-pages .ensures)
+    (sym (asked .before .refusal .ensures) ∙ omega (arith, asked .if1 .left)) (made .format .ensures) (stored .store-blank-pages .ensures)
 
 pub format-spec : {M : Type 1} → statement M
 format-spec =

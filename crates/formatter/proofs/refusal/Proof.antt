@@ -1,11 +1,11 @@
--- `controller::format_refusal` meets its contract: the first no, in order. Assumes nothing.
+-- `formatter::refusal` meets its contract: the first no, in order. Assumes nothing.
 use borrow.Author.Needs.{needs}
 use mathlib.Core.Path.{_∙_, sym}
 use native.Mathlib.Omega.{arith}
 use Rattle.lockpage.proofs.GeometryLaw.{present-proper as σ}
-use Rattle.controller.proofs.FormatLaw.{too-few, too-many, memory-wrong, disk-wrong, salt-wrong, none-wrong}
-use Rattle.controller.proofs.format_refusal.Statement.{statement}
-use Rattle.controller.proofs.format_refusal.Tie as tie
+use Rattle.formatter.proofs.FormatLaw.{too-few, too-many, memory-wrong, disk-wrong, salt-wrong, none-wrong}
+use Rattle.formatter.proofs.refusal.Statement.{statement}
+use Rattle.formatter.proofs.refusal.Tie as tie
 
 -- where it starts, before the first test
 abbrev start : tie.After-shared-slice-known3 → tie.Start
@@ -53,5 +53,5 @@ none c =
     (omega (arith, three .before .if2 .left)) (omega (arith, three .if3 .left)) (omega (arith, c .before .if4 .left, sized .disk-size .ensures))
     (omega (arith, c .if5 .left))
 
-pub format-refusal-spec : {M : Type 1} → statement M
-format-refusal-spec = tie.close (tie.spec few many memory (λ c κs. search needs) disk salt none)
+pub refusal-spec : {M : Type 1} → statement M
+refusal-spec = tie.close (tie.spec few many memory (λ c κs. search needs) disk salt none)

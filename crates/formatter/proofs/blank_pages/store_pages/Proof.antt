@@ -1,4 +1,4 @@
--- `controller::blank_pages::store_pages` meets its contract. The loop's invariant: the first g pages are stored. Assumes nothing.
+-- `formatter::blank_pages::store_pages` meets its contract. The loop's invariant: the first g pages are stored. Assumes nothing.
 use borrow.Author.Needs.{needs}
 use mathlib.Core.Path.{_≡_, ap, sym, _∙_}
 use Prim.Native.Nat.{_≤_, _-_}
@@ -11,9 +11,9 @@ use Rattle.addressing.specs.Map.{diskSize}
 use Rattle.disk.proofs.DiskLaw.{hasGroup}
 use Rattle.machine.specs.Effect.{stored}
 use Rattle.machine.specs.Format.{blankPages}
-use Rattle.controller.proofs.FormatLaw.{pages-start, pages-step, pages-end, page-fits}
-use Rattle.controller.proofs.blank_pages.store_pages.Statement.{statement}
-use Rattle.controller.proofs.blank_pages.store_pages.Tie as tie
+use Rattle.formatter.proofs.FormatLaw.{pages-start, pages-step, pages-end, page-fits}
+use Rattle.formatter.proofs.blank_pages.store_pages.Statement.{statement}
+use Rattle.formatter.proofs.blank_pages.store_pages.Tie as tie
 
 abbrev Inv-loop : tie.InvT-loop
 Inv-loop disk₀ groups page g₀ disk g = (g ≤ groups) × ((length disk ≡ diskSize present groups) × (disk ≡ stored present disk₀ (blankPages present g)))

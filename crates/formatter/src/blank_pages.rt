@@ -6,7 +6,7 @@ ghost use Rattle.lockpage.specs.Geometry.{present};
 ghost use Rattle.addressing.specs.Map.{diskSize};
 ghost use Rattle.machine.specs.Effect.{stored};
 ghost use Rattle.machine.specs.Format.{blankPages};
-ghost use Rattle.controller.specs.Ready.{PagesReady};
+ghost use Rattle.formatter.specs.Ready.{PagesReady};
 use lockpage::PAGE_SIZE;
 
 // Stores a page on the disk as that of each group.
