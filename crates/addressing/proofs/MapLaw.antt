@@ -5,7 +5,8 @@ use native.Mathlib.Nat.{mod-lt, div-add-mod, div-lt-iff-lt-mul, mul-le-mul, mul-
 use native.Mathlib.Omega.{arith}
 use Rattle.lockpage.specs.Geometry.{Geometry, Proper}
 use Rattle.lockpage.specs.Size.{blockSize}
-use Rattle.addressing.specs.Map.{groupData, groupBlocks, groupSize, diskSize, dataBlocks, groupOf, placeOf, pagePlace, physical, pageBlock, groupStart, blockStart}
+use Rattle.addressing.specs.Map.{groupData, groupBlocks, groupSize, diskSize, dataBlocks, groupOf, placeOf, pagePlace, physical, pageBlock, groupStart}
+use Rattle.addressing.specs.Map.{blockStart}
 use Rattle.addressing.specs.Claims.{InExtent}
 
 -- ---- products and quotients, of any numbers

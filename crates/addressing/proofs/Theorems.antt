@@ -5,7 +5,8 @@ use native.Mathlib.Omega.{arith}
 use Rattle.lockpage.specs.Geometry.{Geometry, Proper}
 use Rattle.addressing.specs.Map.{groupOf, placeOf, pagePlace, blockStart}
 use Rattle.addressing.specs.Claims.{PapersDiskSizes, Inside, Apart, Within, ExtentsApart, ExtentsCover}
-use Rattle.addressing.proofs.MapLaw.{placeOf-below, physical-place, pageBlock-place, physical-below, pageBlock-below, physical-same, pageBlock-same, physical-page, blockStart-end, blockStart-group, groupStart-apart, in-extent}
+use Rattle.addressing.proofs.MapLaw.{placeOf-below, physical-place, pageBlock-place, physical-below, pageBlock-below, physical-same, pageBlock-same}
+use Rattle.addressing.proofs.MapLaw.{physical-page, blockStart-end, blockStart-group, groupStart-apart, in-extent}
 
 pub papers-disk-sizes : PapersDiskSizes
 papers-disk-sizes = record { data-blocks = refl; blocks = refl; bytes = refl }

@@ -3,7 +3,8 @@ use Prim.Native.Nat.{ℕ, _+_, _*_, _≤_, _<_}
 use mathlib.Core.Path.{_≡_}
 use Rattle.lockpage.specs.Geometry.{Geometry, base}
 use Rattle.lockpage.specs.Size.{blockSize}
-use Rattle.addressing.specs.Map.{groupData, groupBlocks, groupSize, diskSize, dataBlocks, groupOf, placeOf, pagePlace, physical, pageBlock, groupStart, blockStart}
+use Rattle.addressing.specs.Map.{groupData, groupBlocks, groupSize, diskSize, dataBlocks, groupOf, placeOf, pagePlace, physical, pageBlock, groupStart}
+use Rattle.addressing.specs.Map.{blockStart}
 
 -- document 01's sizes: "A group is 64 data blocks and then one lock page"; "its disk is G × 33,280 bytes"
 pub record PapersDiskSizes : Type 0 where

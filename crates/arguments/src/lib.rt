@@ -1,5 +1,6 @@
 // A command's arguments: its kind, and questions 2 to 6, on the disk, the kind, the time, the address and the lengths. A function
-// for each, and all of them in order; and the entry that an update brings. The contracts cite the definitions of machine.
+// for each, and all of them in order; and the entry that an update brings. The contracts cite the definitions of machine,
+// and of specs/ the list of the five.
 pub mod kinds;
 
 ghost use mathlib.Core.Path.{_≡_};
@@ -76,7 +77,8 @@ pub fn refusal(
     answer: &[u8],
 ) -> u32
     requires { ⌜ length (now memory) ≡ memorySize present ⌝ }
-    ensures { λ r. ⌜ r ≡ firstNo (argumentQuestions present k (now (memory .entry)) (now (disk .entry)) block time (now (content .entry)) (now (proof .entry)) (now (answer .entry))) ⌝ }
+    ensures { λ r. ⌜ r ≡ firstNo (argumentQuestions present k (now (memory .entry)) (now (disk .entry)) block time
+        (now (content .entry)) (now (proof .entry)) (now (answer .entry))) ⌝ }
 {
     let fits = disk_fits(memory, disk);
     let known = kinds::is_known(k);

@@ -1,4 +1,4 @@
-// The held page leaves the memory: for the disk, or for good.
+// The held page: put on the disk, or lost.
 ghost use mathlib.Core.Path.{_≡_};
 ghost use mathlib.Core.Bool.{true};
 ghost use Rattle.lockpage.specs.Geometry.{present};

@@ -17,7 +17,8 @@ use Rattle.machine.specs.declared.Kind.the-variants.{Read, Entry, Page, 
 use Rattle.machine.specs.Command.{Box, Command, Outcome, kindOf}
 use Rattle.machine.specs.Tag.{currentPage}
 use Rattle.machine.specs.Question.{refusal}
-use Rattle.machine.specs.Effect.{stored, effect, read, showEntry, showPage, putHeld, changedPage, change, sync, restartedMemory, restart, newSalt, identify}
+use Rattle.machine.specs.Effect.{stored, effect, read, showEntry, showPage, putHeld, changedPage, change, sync, restartedMemory, restart, newSalt}
+use Rattle.machine.specs.Effect.{identify}
 use Rattle.machine.specs.Step.{step, timed, done}
 use Rattle.machine.specs.After.{saltAfter, countAfter, heldAfter, pageAfter, contentAfter, After}
 use Rattle.machine.proofs.CaseLaw.{same-or-not}
@@ -25,7 +26,8 @@ use Rattle.machine.proofs.QuestionLaw.{all-yes}
 use Rattle.machine.proofs.StepLaw.{step-accepted}
 use Rattle.machine.proofs.TagLaw.{current-other}
 use Rattle.machine.proofs.PassedLaw.{new-salt-other, Passed, Changes, passed, changes, passed-timed, changed-group, accepted-changes, timed-reads}
-use Rattle.machine.proofs.EffectLaw.{left, count-changed, untouched, count-unchanged, restarted-none, restarted-held-reads, restarted-salt, restarted-time, restarted-groups, restarted-drops, salted-reads}
+use Rattle.machine.proofs.EffectLaw.{left, count-changed, untouched, count-unchanged, restarted-none, restarted-held-reads, restarted-salt}
+use Rattle.machine.proofs.EffectLaw.{restarted-time, restarted-groups, restarted-drops, salted-reads}
 use Rattle.machine.proofs.ChangeLaw.{change-on-disk, not-none, put-current, put-elsewhere, change-reads, change-page, change-content}
 use Rattle.machine.proofs.TimedLaw.{in-memory, salt-timed, counts-timed, held-timed, page-timed}
 

@@ -18,7 +18,8 @@ use Rattle.memory.specs.Memory.{lastTime, held, none}
 use Rattle.machine.specs.Command.{Box, Command, kindOf}
 use Rattle.machine.specs.Step.{step, padded, Accepted}
 use Rattle.machine.specs.Run.{Event, Given, after, run, Throughout}
-use Rattle.machine.specs.Protection.{Unforged, NotUnfrozen, CommandShows, Shows, startContent, startEntry, Protected, FrozenUnder, CountingTo, NeverUnfrozen, ShowsStart, ShownIn, SeenAlike}
+use Rattle.machine.specs.Protection.{Unforged, NotUnfrozen, CommandShows, Shows, startContent, startEntry, Protected, FrozenUnder, CountingTo}
+use Rattle.machine.specs.Protection.{NeverUnfrozen, ShowsStart, ShownIn, SeenAlike}
 use Rattle.machine.proofs.KindLaw.{unfreeze-number}
 use Rattle.machine.proofs.QuestionLaw.{all-yes}
 use Rattle.machine.proofs.StepLaw.{step-number, accepts}

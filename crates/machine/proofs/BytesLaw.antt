@@ -30,7 +30,8 @@ use Rattle.machine.specs.declared.Kind.the-variants.{Read, Entry, Page, 
 use Rattle.machine.specs.Command.{Box, Command, Outcome, kindOf, proofSize, broughtPage, answerSize}
 use Rattle.machine.specs.Tag.{currentPage}
 use Rattle.machine.specs.Question.{refusal}
-use Rattle.machine.specs.Effect.{Store, Effect, stored, effect, read, showEntry, entryAnswer, showPage, putHeld, evict, putContent, updatedPage, changedPage, changedMemory, change, sync, restartedMemory, restart, salted, newSalt, identifySize, identify}
+use Rattle.machine.specs.Effect.{Store, Effect, stored, effect, read, showEntry, entryAnswer, showPage, putHeld, evict, putContent, updatedPage}
+use Rattle.machine.specs.Effect.{changedPage, changedMemory, change, sync, restartedMemory, restart, salted, newSalt, identifySize, identify}
 use Rattle.machine.specs.Step.{step, timed, done}
 use Rattle.machine.specs.Claims.{ByteBox, ByteCommand, Stored}
 use Rattle.machine.proofs.CaseLaw.{same-or-not}

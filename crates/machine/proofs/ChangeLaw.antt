@@ -24,7 +24,9 @@ use Rattle.machine.specs.After.{pageAfter, contentAfter}
 use Rattle.machine.proofs.CaseLaw.{same-or-not}
 use Rattle.machine.proofs.TagLaw.{current-held, current-other}
 use Rattle.machine.proofs.PassedLaw.{Passed, Changes, changed-group}
-use Rattle.machine.proofs.EffectLaw.{left, elsewhere, content-on-no-page, EachStore, each-put, each-evicted, Whole, Elsewhere, untouched, stored-length, stored-append, held-whole, put-whole, put-none, put-some, evict-same, evict-other, content-whole, changed-length, changed-reads}
+use Rattle.machine.proofs.EffectLaw.{left, elsewhere, content-on-no-page, EachStore, each-put, each-evicted, Whole, Elsewhere, untouched}
+use Rattle.machine.proofs.EffectLaw.{stored-length, stored-append, held-whole, put-whole, put-none, put-some, evict-same, evict-other, content-whole}
+use Rattle.machine.proofs.EffectLaw.{changed-length, changed-reads}
 
 -- γ is any proper geometry
 module _ {γ : Geometry} (σ : Proper γ) where

@@ -25,7 +25,8 @@ use Rattle.validity.proofs.ValidLaw.{Valid}
 use Rattle.machine.specs.declared.Kind.the-variants.{Change}
 use Rattle.machine.specs.Command.{Box, Command, boxOf, proofSize, broughtPage}
 use Rattle.machine.specs.Question.{contentLength}
-use Rattle.machine.specs.Effect.{Store, Effect, store, stored, putHeld, evict, putContent, updatedPage, changedPage, changedMemory, change, restartedMemory, salted}
+use Rattle.machine.specs.Effect.{Store, Effect, store, stored, putHeld, evict, putContent, updatedPage, changedPage, changedMemory, change}
+use Rattle.machine.specs.Effect.{restartedMemory, salted}
 use Rattle.machine.specs.After.{HeldPageFirst}
 use Rattle.machine.proofs.CaseLaw.{same-or-not}
 use Rattle.machine.proofs.TagLaw.{brought-length}
@@ -92,7 +93,8 @@ module _ {γ : Geometry} (σ : Proper γ) where
 
   restarted-reads : (m : List ℕ) → length m ≡ memorySize γ → (held γ m ≡ none → ⊥) → held γ m < γ .mostGroups
       → count m (held γ m) + 1 < 256 ^ countSize
-      → Reads γ (restartedMemory γ m) (salt m) (changed (count m) (held γ m) (count m (held γ m) + 1)) (lastTime γ m) (groups γ m) none (repeated (pageSize γ) 0)
+      → Reads γ (restartedMemory γ m) (salt m) (changed (count m) (held γ m) (count m (held γ m) + 1))
+      (lastTime γ m) (groups γ m) none (repeated (pageSize γ) 0)
   unfolding restartedMemory
   restarted-reads m l e h n = rw (restartedMemory, ne-eqb (held γ m) none e) (both (page-dropped σ m l))
     where
@@ -118,7 +120,8 @@ module _ {γ : Geometry} (σ : Proper γ) where
   -- the fields that a restart leaves, and that none is held after it
   module _ (m : List ℕ) (v : Valid γ m) where
     pub restarted-held-reads : (held γ m ≡ none → ⊥)
-        → Reads γ (restartedMemory γ m) (salt m) (changed (count m) (held γ m) (count m (held γ m) + 1)) (lastTime γ m) (groups γ m) none (repeated (pageSize γ) 0)
+        → Reads γ (restartedMemory γ m) (salt m) (changed (count m) (held γ m) (count m (held γ m) + 1))
+        (lastTime γ m) (groups γ m) none (repeated (pageSize γ) 0)
     restarted-held-reads n = restarted-reads m (v .size) n (omega (arith, v .group n, v .most)) (omega (arith, v .unexhausted n))
 
     pub restarted-salt : salt (restartedMemory γ m) ≡ salt m

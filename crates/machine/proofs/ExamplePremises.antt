@@ -22,7 +22,9 @@ use Rattle.machine.specs.Step.{step, padded, Accepted}
 use Rattle.machine.specs.Run.{Event, Given, run, Throughout}
 use Rattle.machine.specs.Claims.{ByteBox}
 use Rattle.machine.specs.Protection.{Unforged, NotUnfrozen, startEntry, Protected, FrozenUnder, NeverUnfrozen}
-use Rattle.machine.specs.Example.{formattedBox, writing, writtenBox, syncing, start, unfreezing, unfrozenBox, showing, shownBox, restarting, restartedBox, readingBack, readBox, unfreezingAgain, countingBox, overwriting, events, showingOther, otherBox, readingOther, otherEvents, IsAccepted, ShowsProtected, PremisesMet}
+use Rattle.machine.specs.Example.{formattedBox, writing, writtenBox, syncing, start, unfreezing, unfrozenBox, showing, shownBox, restarting}
+use Rattle.machine.specs.Example.{restartedBox, readingBack, readBox, unfreezingAgain, countingBox, overwriting, events, showingOther, otherBox}
+use Rattle.machine.specs.Example.{readingOther, otherEvents, IsAccepted, ShowsProtected, PremisesMet}
 use Rattle.machine.proofs.QuestionLaw.{asks, no-seventh}
 use Rattle.machine.proofs.StepLaw.{step-number}
 use Rattle.machine.proofs.TagLaw.{tagged-are, current-are}
@@ -30,7 +32,9 @@ use Rattle.machine.proofs.BytesLaw.{accepted-bytes}
 use Rattle.machine.proofs.AfterLaw.{accepted-after}
 use Rattle.machine.proofs.AnswerLaw.{read-answer}
 use Rattle.machine.proofs.ExampleLaw.{not-forged, entry-answers}
-use Rattle.machine.proofs.ExampleRun.{zeroBox, as-formatted, known-formatted, writing-served, syncing-served, known-start, unfreezing-served, known-unfrozen, showing-served, restarting-served, reading-back-served, known-read, unfreezing-again-served, known-counting, overwriting-served, showing-other-served, reading-other-served}
+use Rattle.machine.proofs.ExampleRun.{zeroBox, as-formatted, known-formatted, writing-served, syncing-served, known-start, unfreezing-served}
+use Rattle.machine.proofs.ExampleRun.{known-unfrozen, showing-served, restarting-served, reading-back-served, known-read, unfreezing-again-served}
+use Rattle.machine.proofs.ExampleRun.{known-counting, overwriting-served, showing-other-served, reading-other-served}
 
 -- ---- the premises
 

@@ -26,11 +26,13 @@ use Rattle.machine.specs.Tag.{currentPage}
 use Rattle.machine.specs.Question.{refusal}
 use Rattle.machine.specs.Format.{formatQuestions, format}
 use Rattle.machine.specs.Claims.{Formats}
-use Rattle.machine.specs.Example.{formattedBox, writing, writtenBox, syncing, start, unfreezing, unfrozenBox, showing, shownBox, restarting, restartedBox, readingBack, readBox, unfreezingAgain, countingBox, overwriting, showingOther, otherBox, readingOther}
+use Rattle.machine.specs.Example.{formattedBox, writing, writtenBox, syncing, start, unfreezing, unfrozenBox, showing, shownBox, restarting}
+use Rattle.machine.specs.Example.{restartedBox, readingBack, readBox, unfreezingAgain, countingBox, overwriting, showingOther, otherBox, readingOther}
 use Rattle.machine.proofs.QuestionLaw.{yes-accepted}
 use Rattle.machine.proofs.TagLaw.{current-other}
 use Rattle.machine.proofs.FormatLaw.{formats}
-use Rattle.machine.proofs.ExampleLaw.{Known, served, updated-known, read-served, entry-served, sync-served, restart-served, read-known, entry-known, sync-known, restart-known}
+use Rattle.machine.proofs.ExampleLaw.{Known, served, updated-known, read-served, entry-served, sync-served, restart-served, read-known, entry-known}
+use Rattle.machine.proofs.ExampleLaw.{sync-known, restart-known}
 
 -- ---- the formatted box
 

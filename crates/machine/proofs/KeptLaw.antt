@@ -23,11 +23,13 @@ use Rattle.machine.specs.declared.Kind.the-variants.{Read, Entry, Page, 
 use Rattle.machine.specs.Command.{Box, Command, broughtPage, broughtEntry}
 use Rattle.machine.specs.Tag.{currentPage}
 use Rattle.machine.specs.Question.{contentLength}
-use Rattle.machine.specs.Effect.{stored, effect, read, showEntry, showPage, putHeld, evict, putContent, updatedPage, changedPage, change, sync, restart, newSalt, identify}
+use Rattle.machine.specs.Effect.{stored, effect, read, showEntry, showPage, putHeld, evict, putContent, updatedPage, changedPage, change, sync, restart}
+use Rattle.machine.specs.Effect.{newSalt, identify}
 use Rattle.machine.specs.Step.{timed}
 use Rattle.machine.proofs.TagLaw.{current, brought-length}
 use Rattle.machine.proofs.PassedLaw.{Passed, Changes, changed-group, timed-reads}
-use Rattle.machine.proofs.EffectLaw.{left, EachStore, each-append, each-put, each-evicted, held-whole, content-whole, changed-length, changed-reads, restarted-time, restarted-drops, salted-reads}
+use Rattle.machine.proofs.EffectLaw.{left, EachStore, each-append, each-put, each-evicted, held-whole, content-whole, changed-length, changed-reads}
+use Rattle.machine.proofs.EffectLaw.{restarted-time, restarted-drops, salted-reads}
 use Rattle.machine.proofs.SafeLaw.{Watch, Safe, SafePage, SafeDisk, SafeBox, Harmless, Kept, safe-not-free, safe-updated, safe-page, stores-safe}
 
 -- γ is any proper geometry

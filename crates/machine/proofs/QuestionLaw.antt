@@ -19,7 +19,8 @@ use Rattle.machine.specs.declared.Kind.{Kind}
 use Rattle.machine.specs.declared.Kind.the-variants.{Read, Entry, Page, Change, Sync, Restart, NewSalt, Identify, Unknown}
 use Rattle.machine.specs.Command.{Box, Command, kindOf, broughtPage, broughtTag, broughtEntry}
 use Rattle.machine.specs.Tag.{tag}
-use Rattle.machine.specs.Question.{Question, Put, NotPut, question1, question2, question3, question4, question5, question6, question7, question8, question9, question10, question11, questions, questionsTo, firstNo, passes, refusal, AllYes, GetsYes}
+use Rattle.machine.specs.Question.{Question, Put, NotPut, question1, question2, question3, question4, question5, question6, question7, question8}
+use Rattle.machine.specs.Question.{question9, question10, question11, questions, questionsTo, firstNo, passes, refusal, AllYes, GetsYes}
 use Rattle.machine.specs.Claims.{IsFirstNo}
 
 -- ---- any list of questions

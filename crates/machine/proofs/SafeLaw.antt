@@ -24,7 +24,8 @@ use Rattle.lockpage.specs.State.{state}
 use Rattle.lockpage.specs.Update.{latestTime, updated, allowed, withinLimit}
 use Rattle.lockpage.specs.Page.{entryAt, withEntry}
 use Rattle.lockpage.proofs.StateLaw.{Says, says}
-use Rattle.lockpage.proofs.UpdateLaw.{expiry-reaches, updated-fits, unfrozen-word, unfrozen-flag, unfrozen-time, grown-word, grown-stamp, grown-time, allowed-write, allowed-unfreeze}
+use Rattle.lockpage.proofs.UpdateLaw.{expiry-reaches, updated-fits, unfrozen-word, unfrozen-flag, unfrozen-time, grown-word, grown-stamp, grown-time}
+use Rattle.lockpage.proofs.UpdateLaw.{allowed-write, allowed-unfreeze}
 use Rattle.lockpage.proofs.PageLaw.{entry-within, entryAt-same, entryAt-other}
 use Rattle.addressing.specs.Map.{diskSize, groupOf, placeOf, physical, pageBlock}
 use Rattle.addressing.proofs.MapLaw.{placeOf-below}

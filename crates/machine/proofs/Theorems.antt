@@ -16,7 +16,9 @@ use Rattle.validity.proofs.ValidLaw.{facts}
 use Rattle.machine.specs.Command.{Box, Command, kindOf}
 use Rattle.machine.specs.Question.{refusal, questions}
 use Rattle.machine.specs.Step.{step, padded, Accepted}
-use Rattle.machine.specs.Claims.{PapersBufferSizes, IsFirstNo, PassesIfAllYes, KindsAreOneToTen, NumberIsFirstNo, RefusalAltersNothing, AcceptedLeavesValid, StaysValid, InvalidRefuses, ByteBox, StepKeepsBytes, SameLengths, StepKeepsLengths, FormattingFormats}
+use Rattle.machine.specs.Claims.{PapersBufferSizes, IsFirstNo, PassesIfAllYes, KindsAreOneToTen, NumberIsFirstNo, RefusalAltersNothing}
+use Rattle.machine.specs.Claims.{AcceptedLeavesValid, StaysValid, InvalidRefuses, ByteBox, StepKeepsBytes, SameLengths, StepKeepsLengths}
+use Rattle.machine.specs.Claims.{FormattingFormats}
 use Rattle.machine.specs.After.{AcceptedDoes, NewSaltDiffers, HeldPageFirst, AnswersServe}
 use Rattle.machine.specs.Protection.{startContent, startEntry, Demand3, ReadsAlike, EntriesAlike}
 use Rattle.machine.specs.Shortcuts.{Shortcuts}

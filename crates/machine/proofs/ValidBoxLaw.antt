@@ -19,7 +19,8 @@ use Rattle.machine.specs.declared.Kind.{Kind}
 use Rattle.machine.specs.declared.Kind.the-variants.{Read, Entry, Page, Change, Sync, Restart, NewSalt, Identify, Unknown}
 use Rattle.machine.specs.Command.{Box, Command, Outcome, boxOf, kindOf}
 use Rattle.machine.specs.Question.{refusal}
-use Rattle.machine.specs.Effect.{Store, stored, effect, read, showEntry, showPage, putHeld, evict, putContent, changedPage, changedMemory, change, sync, restartedMemory, restart, salted, newSalt, identify}
+use Rattle.machine.specs.Effect.{Store, stored, effect, read, showEntry, showPage, putHeld, evict, putContent, changedPage, changedMemory, change, sync}
+use Rattle.machine.specs.Effect.{restartedMemory, restart, salted, newSalt, identify}
 use Rattle.machine.specs.Step.{step, timed, done}
 use Rattle.machine.specs.Run.{Event, Given, after, run}
 use Rattle.machine.specs.Claims.{ValidBox}
@@ -27,7 +28,8 @@ use Rattle.machine.proofs.CaseLaw.{same-or-not}
 use Rattle.machine.proofs.QuestionLaw.{all-yes}
 use Rattle.machine.proofs.StepLaw.{step-accepted, accepted-or-same}
 use Rattle.machine.proofs.PassedLaw.{Passed, Changes, passed, passed-timed, changed-group, accepted-changes}
-use Rattle.machine.proofs.EffectLaw.{left, EachStore, Whole, each-append, each-evicted, put-whole, content-whole, stored-length, changed-length, count-changed, changed-reads, restarted-none, restarted-held, restarted-groups, salted-reads}
+use Rattle.machine.proofs.EffectLaw.{left, EachStore, Whole, each-append, each-evicted, put-whole, content-whole, stored-length, changed-length}
+use Rattle.machine.proofs.EffectLaw.{count-changed, changed-reads, restarted-none, restarted-held, restarted-groups, salted-reads}
 
 -- γ is any proper geometry
 module _ {γ : Geometry} (σ : Proper γ) where

@@ -18,7 +18,7 @@ use Rattle.machine.specs.Command.{Box}
 abbrev pub groupNumberSize : ℕ
 groupNumberSize = 8
 
--- γ is the box's geometry. The message takes it as well, though every box so far has its salt and counts at the same place
+-- γ is the box's geometry. The message takes it as well, though in every box the salt and the counts stand at the same place
 module _ (γ : Geometry) where
   -- "salt, group in 8 bytes, count in 4 bytes, page": the salt and the group's count are those of memory m
   unfoldable pub tagMessage : List ℕ → ℕ → List ℕ → List ℕ

@@ -18,8 +18,10 @@ use Rattle.octets.proofs.ReplacedLaw.{replaced-length, part-same, part-other, p
 use Rattle.octets.proofs.NumberLaw.{bytes-length, numberAt-same, numberAt-other, numberAt-zeros}
 use Rattle.lockpage.specs.Geometry.{Geometry, Proper}
 use Rattle.lockpage.specs.Size.{pageSize}
-use Rattle.memory.specs.Layout.{memorySize, saltStart, saltSize, countsStart, countSize, countStart, timeStart, timeSize, groupsStart, heldStart, byteSize, reservedStart, reservedSize, pageStart}
-use Rattle.memory.specs.Memory.{salt, count, lastTime, groups, held, none, heldPage, withSalt, withCount, withNoCounts, withLastTime, withGroups, withHeld, withHeldPage, holding, holdingNone}
+use Rattle.memory.specs.Layout.{memorySize, saltStart, saltSize, countsStart, countSize, countStart, timeStart, timeSize, groupsStart, heldStart}
+use Rattle.memory.specs.Layout.{byteSize, reservedStart, reservedSize, pageStart}
+use Rattle.memory.specs.Memory.{salt, count, lastTime, groups, held, none, heldPage, withSalt, withCount, withNoCounts, withLastTime, withGroups}
+use Rattle.memory.specs.Memory.{withHeld, withHeldPage, holding, holdingNone}
 use Rattle.memory.specs.Claims.{Reads, changed}
 
 -- γ is the box's geometry

@@ -8,8 +8,10 @@ use Rattle.octets.proofs.RepeatedLaw.{repeated-below}
 use Rattle.octets.proofs.NumberLaw.{withNumber-are, numberAt-small}
 use Rattle.lockpage.specs.Geometry.{Geometry, Proper}
 use Rattle.lockpage.specs.Size.{pageSize}
-use Rattle.memory.specs.Layout.{memorySize, saltStart, saltSize, countsStart, countSize, countStart, timeStart, timeSize, groupsStart, heldStart, byteSize, pageStart}
-use Rattle.memory.specs.Memory.{salt, count, lastTime, groups, held, none, heldPage, withSalt, withCount, withNoCounts, withLastTime, withGroups, withHeld, withHeldPage, holding, holdingNone, formattedMemory}
+use Rattle.memory.specs.Layout.{memorySize, saltStart, saltSize, countsStart, countSize, countStart, timeStart, timeSize, groupsStart, heldStart}
+use Rattle.memory.specs.Layout.{byteSize, pageStart}
+use Rattle.memory.specs.Memory.{salt, count, lastTime, groups, held, none, heldPage, withSalt, withCount, withNoCounts, withLastTime, withGroups}
+use Rattle.memory.specs.Memory.{withHeld, withHeldPage, holding, holdingNone, formattedMemory}
 
 -- γ is any proper geometry
 module _ {γ : Geometry} (σ : Proper γ) where

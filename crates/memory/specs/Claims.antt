@@ -8,8 +8,10 @@ use lib.Dec.{eqb}
 use Rattle.octets.specs.Part.{repeated}
 use Rattle.lockpage.specs.Geometry.{Geometry, base}
 use Rattle.lockpage.specs.Size.{pageSize}
-use Rattle.memory.specs.Layout.{memorySize, saltStart, saltSize, countSize, countStart, timeStart, timeSize, groupsStart, heldStart, reservedStart, reservedSize, pageStart}
-use Rattle.memory.specs.Memory.{salt, count, lastTime, groups, held, none, heldPage, withSalt, withCount, withNoCounts, withLastTime, withGroups, withHeld, withHeldPage, holding, holdingNone, formattedMemory}
+use Rattle.memory.specs.Layout.{memorySize, saltStart, saltSize, countSize, countStart, timeStart, timeSize, groupsStart, heldStart, reservedStart}
+use Rattle.memory.specs.Layout.{reservedSize, pageStart}
+use Rattle.memory.specs.Memory.{salt, count, lastTime, groups, held, none, heldPage, withSalt, withCount, withNoCounts, withLastTime, withGroups}
+use Rattle.memory.specs.Memory.{withHeld, withHeldPage, holding, holdingNone, formattedMemory}
 
 -- ---- document 01's places
 

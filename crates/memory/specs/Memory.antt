@@ -6,7 +6,8 @@ use Rattle.octets.specs.Part.{part, replaced, repeated}
 use Rattle.octets.specs.Number.{numberAt, withNumber}
 use Rattle.lockpage.specs.Geometry.{Geometry}
 use Rattle.lockpage.specs.Size.{pageSize}
-use Rattle.memory.specs.Layout.{memorySize, saltStart, saltSize, countsStart, countSize, countStart, timeStart, timeSize, groupsStart, heldStart, byteSize, pageStart}
+use Rattle.memory.specs.Layout.{memorySize, saltStart, saltSize, countsStart, countSize, countStart, timeStart, timeSize, groupsStart, heldStart}
+use Rattle.memory.specs.Layout.{byteSize, pageStart}
 
 -- ---- the fields whose place is the same in every box
 

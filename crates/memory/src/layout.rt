@@ -1,4 +1,4 @@
-// Where each field stands, and how large it may be.
+// Where each field stands, its size, and the limits of what it holds.
 ghost use mathlib.Core.Path.{_≡_};
 ghost use Rattle.memory.specs.Layout.{countStart};
 

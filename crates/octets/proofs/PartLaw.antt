@@ -5,7 +5,8 @@ use Prim.Native.Nat.{ℕ, zero, suc, _+_, _-_, _≤_, _<_, min}
 use native.Mathlib.Nat.{sub-zero, suc-sub-suc}
 use native.Mathlib.Omega.{arith}
 use lib.ListN.{length, take, drop, getD, length-take, length-drop}
-use lib.Seq.{take-append-le, drop-append-le, drop-append-add, take-at, drop-at, take-all, take-take, drop-drop, take-add, length-take-le, getD-take, getD-drop, take-nil, drop-nil}
+use lib.Seq.{take-append-le, drop-append-le, drop-append-add, take-at, drop-at, take-all, take-take, drop-drop, take-add, length-take-le, getD-take}
+use lib.Seq.{getD-drop, take-nil, drop-nil}
 use Rattle.octets.specs.Part.{part}
 
 pub part-length : (l : List ℕ) (at n : ℕ) → at + n ≤ length l → length (part l at n) ≡ n

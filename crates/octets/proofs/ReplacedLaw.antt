@@ -8,7 +8,8 @@ use native.Mathlib.Nat.{add-assoc, add-zero, zero-add}
 use native.Mathlib.Numerals.{add-one}
 use native.Mathlib.Omega.{arith}
 use lib.ListN.{length, take, drop, getD, set, length-append, length-set, length-drop, take-append-drop, drop-of-length-le}
-use lib.Seq.{take-at, drop-at, take-append-le, drop-append-le, take-append-add, drop-append-add, drop-drop, length-take-le, take-length, sets, sets-eq, paste, paste-zero, paste-suc}
+use lib.Seq.{take-at, drop-at, take-append-le, drop-append-le, take-append-add, drop-append-add, drop-drop, length-take-le, take-length, sets, sets-eq, paste}
+use lib.Seq.{paste-zero, paste-suc}
 use Rattle.octets.specs.Part.{part, replaced}
 use Rattle.octets.proofs.PartLaw.{part-left, part-length, part-part, part-all}
 

@@ -14,7 +14,7 @@ use Rattle.script_lines.specs.declared.Values.{Values}
 use Rattle.script_lines.specs.declared.Judged.{Judged}
 use Rattle.script_lines.specs.declared.Judged.the-variants.{Right, Malformed}
 use Rattle.script_lines.specs.Syntax.{space, fields, mostValue, isValue, isLine, parsed}
-use Rattle.script_lines.specs.Claims.{lineOf, Within}
+use Rattle.script_lines.specs.Claims.{lineOf, ValuesFit}
 use Rattle.script_lines.proofs.CutLaw.{Without, cut-at, cut-field, cut-further, joined, joined-cut}
 use Rattle.script_lines.proofs.FieldLaw.{decimal-without, value-yes, value-true, not-true-false, all-none, all-head, all-tail, all-more}
 
@@ -111,7 +111,7 @@ four-right a b c d ha hb hc hd =
     values =
         all-more _ _ (value-yes a ha) (all-more _ _ (value-yes b hb) (all-more _ _ (value-yes c hc) (all-more _ _ (value-yes d hd) all-none)))
 
-pub line-spelled : (v : Values) → Within v → parsed (lineOf v) ≡ Right v
+pub line-spelled : (v : Values) → ValuesFit v → parsed (lineOf v) ≡ Right v
 line-spelled v w = four-right (v .kind) (v .block) (v .time) (v .value) (w .kind) (w .block) (w .time) (w .value)
 
 right-test : (t : Bool) (fs : List (List ℕ)) (v : Values) → ofTest t fs ≡ Right v → (t ≡ true) × (valuesAt fs ≡ v)
@@ -119,7 +119,7 @@ right-test true fs v e = (refl, cc)
 right-test false fs v e = let z : _≡_ {A = ℕ} 0 1 = cc in absurd (omega arith)
 
 -- four fields that are values are the decimals of what they spell
-joined-values : (fs : List (List ℕ)) → length fs ≡ 4 → all fs isValue ≡ true → (joined space fs ≡ lineOf (valuesAt fs)) × Within (valuesAt fs)
+joined-values : (fs : List (List ℕ)) → length fs ≡ 4 → all fs isValue ≡ true → (joined space fs ≡ lineOf (valuesAt fs)) × ValuesFit (valuesAt fs)
 joined-values [] n e = absurd (omega arith)
 joined-values (a ∷ []) n e = absurd (omega arith)
 joined-values (a ∷ b ∷ []) n e = absurd (omega arith)
@@ -137,7 +137,7 @@ joined-values (a ∷ b ∷ c ∷ d ∷ []) n e =
       record { kind = va .within; block = vb .within; time = vc .within; value = vd .within },
     )
 
-pub line-only : (line : List ℕ) (v : Values) → parsed line ≡ Right v → (line ≡ lineOf v) × Within v
+pub line-only : (line : List ℕ) (v : Values) → parsed line ≡ Right v → (line ≡ lineOf v) × ValuesFit v
 line-only line v e =
     let fs = fields line in
     let r = right-test (isForm fs) fs v (sym (parsed-fields line fs refl) ∙ e) in
@@ -145,4 +145,4 @@ line-only line v e =
     joined-values fs (eqb-true (length fs) 4 (and-elim-left (eqb (length fs) 4) (all fs isValue) (r .0)))
     (and-elim-right (eqb (length fs) 4) (all fs isValue) (r .0))
     in
-    (sym (joined-cut space line) ∙ four .0 ∙ ap lineOf (r .1), subst Within (r .1) (four .1))
+    (sym (joined-cut space line) ∙ four .0 ∙ ap lineOf (r .1), subst ValuesFit (r .1) (four .1))

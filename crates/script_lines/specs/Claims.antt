@@ -18,7 +18,7 @@ abbrev pub lineOf : Values → List ℕ
 lineOf v = decimal (v .kind) ++ (space ∷ decimal (v .block) ++ (space ∷ decimal (v .time) ++ (space ∷ decimal (v .value))))
 
 -- the values that a line may have
-pub record Within (v : Values) : Type 0 where
+pub record ValuesFit (v : Values) : Type 0 where
   pub kind : v .kind ≤ mostValue
   pub block : v .block ≤ mostValue
   pub time : v .time ≤ mostValue
@@ -26,6 +26,6 @@ pub record Within (v : Values) : Type 0 where
 
 pub record SyntaxOfLine : Type 0 where
   -- the line of any four values is of the form, and they are its values
-  pub spelled : (v : Values) → Within v → parsed (lineOf v) ≡ Right v
+  pub spelled : (v : Values) → ValuesFit v → parsed (lineOf v) ≡ Right v
   -- and there is no other
-  pub only : (line : List ℕ) (v : Values) → parsed line ≡ Right v → (line ≡ lineOf v) × Within v
+  pub only : (line : List ℕ) (v : Values) → parsed line ≡ Right v → (line ≡ lineOf v) × ValuesFit v

@@ -23,7 +23,8 @@ use Rattle.script_answers.specs.Answer.{ranLine, lineShown}
 use Rattle.script_printout.specs.declared.Stage.the-variants.{Body, Ended}
 use Rattle.script_printout.specs.Printout.{badLine, bodyPrinted}
 use Rattle.script_printout.specs.Reader.{printing, readerOf, mostNumber, nextNumber, stopped, byteRead, lineEnd, pieceRead, inputEnd}
-use Rattle.script_printout.proofs.ReaderLaw.{number-next, line-right, line-malformed, body-newline, body-going, body-wrong, end-blank, end-line, wholeRead, whole-next}
+use Rattle.script_printout.proofs.ReaderLaw.{number-next, line-right, line-malformed, body-newline, body-going, body-wrong, end-blank, end-line}
+use Rattle.script_printout.proofs.ReaderLaw.{wholeRead, whole-next}
 
 -- ---- what the definition of the whole gives for the first line
 

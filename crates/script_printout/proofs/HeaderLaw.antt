@@ -18,7 +18,8 @@ use Rattle.script_lines.proofs.CutLaw.{Without, cut-at, cut-line, cut-further}
 use Rattle.script_printout.specs.declared.Stage.the-variants.{Header, Body}
 use Rattle.script_printout.specs.Printout.{header, heading, badLine, bodyPrinted, linesPrinted}
 use Rattle.script_printout.specs.Reader.{printing, readerOf, mostNumber, nextNumber, stopped, byteRead, pieceRead, inputEnd}
-use Rattle.script_printout.proofs.ReaderLaw.{number-next, header-whole, header-short, header-newline, header-next, header-longer, header-other, wholeRead, whole-next}
+use Rattle.script_printout.proofs.ReaderLaw.{number-next, header-whole, header-short, header-newline, header-next, header-longer, header-other}
+use Rattle.script_printout.proofs.ReaderLaw.{wholeRead, whole-next}
 use Rattle.script_printout.proofs.BodyLaw.{reads-none, stopped-reads, body-reads}
 
 -- ---- what the definition of the whole gives for the first line

@@ -21,7 +21,8 @@ use Rattle.script_printout.specs.declared.Stage.{Stage}
 use Rattle.script_printout.specs.declared.Stage.the-variants.{Header, Body, Ended}
 use Rattle.script_printout.specs.declared.Reader.{Reader}
 use Rattle.script_printout.specs.Printout.{header, heading}
-use Rattle.script_printout.specs.Reader.{Printing, printing, readerOf, mostNumber, nextNumber, stopped, headerEnd, lineEnd, headerByte, bodyByte, byteRead, prefixed, pieceRead, bodyEnd, inputEnd}
+use Rattle.script_printout.specs.Reader.{Printing, printing, readerOf, mostNumber, nextNumber, stopped, headerEnd, lineEnd, headerByte, bodyByte}
+use Rattle.script_printout.specs.Reader.{byteRead, prefixed, pieceRead, bodyEnd, inputEnd}
 
 pub number-last : nextNumber mostNumber ≡ mostNumber
 unfolding nextNumber

@@ -56,7 +56,8 @@ fn tag(memory: &[u8], group: u32, page: &[u8], out: &mut [u8])
 // Whether the tag brought is that of the page brought.
 pub fn matches(memory: &[u8], group: u32, proof: &[u8]) -> bool
     requires { ⌜ HasCount present (now memory) group × (length (now proof) ≡ proofSize present) ⌝ }
-    ensures { λ r. ⌜ r ≡ equal (broughtTag present (now (proof .entry))) (T.tag present (now (memory .entry)) group (broughtPage present (now (proof .entry)))) ⌝ }
+    ensures { λ r. ⌜ r ≡ equal (broughtTag present (now (proof .entry)))
+        (T.tag present (now (memory .entry)) group (broughtPage present (now (proof .entry)))) ⌝ }
 {
     let mut own = [0u8; TAG_SIZE];
     tag(memory, group, &proof[0..PAGE_SIZE], &mut own);

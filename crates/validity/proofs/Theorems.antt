@@ -1,7 +1,8 @@
 -- The claims of specs/Claims.antt, proved. Assumes nothing.
 use Rattle.lockpage.specs.Geometry.{Geometry, Proper}
 use Rattle.validity.specs.Claims.{ChangesKeepValid, FormattedIsValid, UnusedCounts}
-use Rattle.validity.proofs.ValidLaw.{facts, valid-salt, valid-time, valid-count, valid-no-counts, valid-holding, valid-none, valid-formatted, unused-count}
+use Rattle.validity.proofs.ValidLaw.{facts, valid-salt, valid-time, valid-count, valid-no-counts, valid-holding, valid-none, valid-formatted}
+use Rattle.validity.proofs.ValidLaw.{unused-count}
 
 -- γ is any proper geometry
 module _ {γ : Geometry} (σ : Proper γ) where

@@ -17,11 +17,13 @@ use Rattle.lockpage.specs.Geometry.{Geometry, Proper}
 use Rattle.lockpage.specs.Size.{pageSize}
 use Rattle.lockpage.specs.Update.{latestTime}
 use Rattle.memory.specs.Layout.{memorySize, saltSize, countSize, countStart, timeStart, reservedStart, reservedSize}
-use Rattle.memory.specs.Memory.{salt, count, lastTime, groups, held, none, heldPage, withSalt, withCount, withNoCounts, withLastTime, holding, holdingNone, formattedMemory}
+use Rattle.memory.specs.Memory.{salt, count, lastTime, groups, held, none, heldPage, withSalt, withCount, withNoCounts, withLastTime, holding, holdingNone}
+use Rattle.memory.specs.Memory.{formattedMemory}
 use Rattle.validity.specs.Valid.{countLimit, every, valid}
 use Rattle.memory.specs.Claims.{Reads, changed}
 use Rattle.memory.proofs.FormatLaw.{formatted-reads, formatted-zeros}
-use Rattle.memory.proofs.FieldLaw.{InFront, InBack, salt-in, salt-rest, count-in, count-rest, counts-in, time-in, holding-in, salt-set, count-set, counts-zero, counts-cleared, time-set, page-held, page-dropped}
+use Rattle.memory.proofs.FieldLaw.{InFront, InBack, salt-in, salt-rest, count-in, count-rest, counts-in, time-in, holding-in, salt-set, count-set}
+use Rattle.memory.proofs.FieldLaw.{counts-zero, counts-cleared, time-set, page-held, page-dropped}
 
 -- ---- and, or
 

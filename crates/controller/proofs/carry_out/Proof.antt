@@ -10,7 +10,8 @@ use Rattle.machine.specs.Question.{questionsTo, AllYes}
 use Rattle.machine.specs.Effect.{effect}
 use Rattle.machine.specs.Step.{accepted}
 use Rattle.machine.proofs.PassedLaw.{passed}
-use Rattle.controller.proofs.CommandLaw.{all-yes, read-ready, entry-ready, page-ready, upkeep-ready, restart-ready, change-ready, unknown-refused, carried}
+use Rattle.controller.proofs.CommandLaw.{all-yes, read-ready, entry-ready, page-ready, upkeep-ready, restart-ready, change-ready, unknown-refused}
+use Rattle.controller.proofs.CommandLaw.{carried}
 use Rattle.controller.proofs.carry_out.Statement.{statement}
 use Rattle.controller.proofs.carry_out.Tie as tie
 

@@ -11,7 +11,8 @@ use Rattle.validity.proofs.ValidLaw.{facts}
 use Rattle.machine.specs.declared.Kind.the-variants.{Read, Entry, Page, Sync, Restart, Identify, Unknown}
 use Rattle.machine.specs.Command.{Box, Command, boxOf, commandOf}
 use Rattle.machine.specs.Question.{firstNo}
-use Rattle.questions.proofs.RefusalLaw.{FirstSix, invalid-refused, arguments-refused, first-six, nothing-left, salt-left, change-left, change-group, change-early, change-proof}
+use Rattle.questions.proofs.RefusalLaw.{FirstSix, invalid-refused, arguments-refused, first-six, nothing-left, salt-left, change-left, change-group}
+use Rattle.questions.proofs.RefusalLaw.{change-early, change-proof}
 use Rattle.questions.proofs.refusal.Statement.{statement}
 use Rattle.questions.proofs.refusal.Tie as tie
 

@@ -9,7 +9,8 @@ use Rattle.lockpage.proofs.GeometryLaw.{present-proper as σ}
 use Rattle.memory.specs.Layout.{countStart, timeStart}
 use Rattle.memory.specs.Memory.{groups}
 use Rattle.validity.proofs.ValidLaw.{invalid}
-use Rattle.validity.proofs.CheckLaw.{Passed, counts-used, counts-unused, reserved-used, reserved-zero, held-out, held-uncounted, page-decides, count-decides}
+use Rattle.validity.proofs.CheckLaw.{Passed, counts-used, counts-unused, reserved-used, reserved-zero, held-out, held-uncounted, page-decides}
+use Rattle.validity.proofs.CheckLaw.{count-decides}
 use Rattle.validity.proofs.valid.Statement.{statement}
 use Rattle.validity.proofs.valid.Tie as tie
 
