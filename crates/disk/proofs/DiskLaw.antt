@@ -15,7 +15,7 @@ use Rattle.lockpage.specs.Geometry.{Geometry, Proper}
 use Rattle.lockpage.specs.Size.{blockSize}
 use Rattle.addressing.specs.Map.{groupBlocks, groupSize, diskSize, dataBlocks, groupOf, groupStart, blockStart}
 use Rattle.disk.specs.Disk.{block, withBlock, extent, withExtent, HasGroup}
-use Rattle.addressing.proofs.MapLaw.{blockStart-below, blockStart-end, blockStart-group, blockStart-place, groupStart-apart, groupStart-below, groupOf-below}
+use Rattle.addressing.proofs.MapLaw.{blockStart-below, blockStart-end, blockStart-group, blockStart-place, groupStart-below, groupOf-below}
 
 -- γ is any proper geometry
 module _ {γ : Geometry} (σ : Proper γ) where
@@ -69,19 +69,6 @@ module _ {γ : Geometry} (σ : Proper γ) where
     pub extent-length : length (extent γ disk g) ≡ groupSize γ
     unfolding extent HasGroup
     extent-length = part-length disk (groupStart γ g) (groupSize γ) has
-
-    pub extent-same : (new : List ℕ) → length new ≡ groupSize γ → extent γ (withExtent γ disk g new) g ≡ new
-    unfolding extent withExtent HasGroup
-    extent-same new s = part-same disk (groupStart γ g) new (groupSize γ) s has
-
-    pub extent-other : (new : List ℕ) → length new ≡ groupSize γ → (h : ℕ) → (h ≡ g → ⊥)
-        → extent γ (withExtent γ disk g new) h ≡ extent γ disk h
-    unfolding extent withExtent HasGroup
-    extent-other new s h n = part-other disk (groupStart γ g) new (groupStart γ h) (groupSize γ) (omega arith) (go (apart h g n))
-      where
-        go : (h < g) ⊎ (g < h) → (groupStart γ h + groupSize γ ≤ groupStart γ g) ⊎ (groupStart γ g + length new ≤ groupStart γ h)
-        go (inl k) = inl (groupStart-apart σ h g k)
-        go (inr k) = inr (omega (arith, groupStart-apart σ g h k))
 
     module _ (place : ℕ) (h : place < groupBlocks γ) where
       -- a block read within the extent is read on the disk

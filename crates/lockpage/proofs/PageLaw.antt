@@ -11,15 +11,15 @@ use Rattle.octets.specs.Part.{AreBytes, part, replaced}
 use Rattle.octets.specs.Number.{number, numberAt, withNumber, bytes}
 use Rattle.octets.proofs.OrderLaw.{apart}
 use Rattle.octets.proofs.BelowLaw.{below-none, below-append, below-part, below-replaced}
-use Rattle.octets.proofs.PartLaw.{part-length, part-part, part-first, part-right}
+use Rattle.octets.proofs.PartLaw.{part-part, part-first, part-right}
 use Rattle.octets.proofs.NumberLaw.{bytes-length}
-use Rattle.octets.proofs.ReplacedLaw.{replaced-length, part-same, part-other, replaced-append, replaced-all, replaced-none, replaced-own}
+use Rattle.octets.proofs.ReplacedLaw.{replaced-length, part-same, part-other, replaced-append, replaced-all, replaced-none}
 use Rattle.lockpage.specs.Geometry.{Geometry, Proper}
 use Rattle.lockpage.specs.declared.Entry.{Entry}
 use Rattle.lockpage.specs.Size.{wordSize, entrySize, pageSize}
 use Rattle.lockpage.specs.Entry.{entry, entryBytes, entryOf, EntryFits}
 use Rattle.lockpage.specs.Page.{entryAt, withEntry, repeatedEntry, blankEntry, blankPage}
-use Rattle.lockpage.proofs.EntryLaw.{entryBytes-length, entryBytes-are, entryOf-bytes, bytes-entryOf, entryOf-fits}
+use Rattle.lockpage.proofs.EntryLaw.{entryBytes-length, entryBytes-are, entryOf-bytes, entryOf-fits}
 
 module _ (p : List ℕ) (i : ℕ) (e : Entry) (inside : entrySize * i + entrySize ≤ length p) where
   pub withEntry-length : length (withEntry p i e) ≡ length p
@@ -44,19 +44,6 @@ module _ (p : List ℕ) (i : ℕ) (e : Entry) (inside : entrySize * i + entrySiz
       go : (j < i) ⊎ (i < j) → (entrySize * j + entrySize ≤ entrySize * i) ⊎ (entrySize * i + length (entryBytes e) ≤ entrySize * j)
       go (inl k) = inl (omega arith)
       go (inr k) = inr (omega (arith, entryBytes-length e))
-
-module _ (p : List ℕ) (i : ℕ) (b : AreBytes p) (inside : entrySize * i + entrySize ≤ length p) where
-  -- the eight bytes of entry i
-  pub entryAt-bytes : entryBytes (entryAt p i) ≡ part p (entrySize * i) entrySize
-  unfolding entryAt
-  entryAt-bytes =
-      bytes-entryOf (part p (entrySize * i) entrySize) (below-part 256 p (entrySize * i) entrySize b)
-      (part-length p (entrySize * i) entrySize inside)
-
-  -- an entry read and written back
-  pub withEntry-own : withEntry p i (entryAt p i) ≡ p
-  unfolding withEntry
-  withEntry-own = ap (replaced p (entrySize * i)) entryAt-bytes ∙ replaced-own p (entrySize * i) entrySize inside
 
 -- an entry of a list of bytes, however long, has its eight bytes
 pub entryAt-fits : (p : List ℕ) (i : ℕ) → AreBytes p → EntryFits (entryAt p i)

@@ -1,9 +1,7 @@
 -- Laws of what an update stores: its limit, its stamp, its expiry, that it fits. Assumes nothing.
 use mathlib.Core.Path.{_≡_, refl}
 use mathlib.Core.Bool.{Bool, true, false, false≢true}
-use mathlib.Core.Logic.{_⊎_, inl, inr}
 use Prim.Native.Nat.{ℕ, _+_, _≤_, _<_, _^_}
-use native.Mathlib.Nat.{add-zero}
 use native.Mathlib.Omega.{arith}
 use borrow.Author.Tests.{leb-true}
 use lib.Dec.{leb}
@@ -23,10 +21,6 @@ use Rattle.lockpage.proofs.EntryLaw.{flag-stampOf, timeOfWrite-stampOf}
 pub expiry-reaches : (now lock : ℕ) → now + lock ≤ expiryAt now lock
 unfolding expiryAt
 expiry-reaches now lock = omega arith
-
-pub expiry-none : (now : ℕ) → expiryAt now 0 ≡ now
-unfolding expiryAt
-expiry-none now = add-zero now
 
 -- ---- the limit
 
@@ -68,10 +62,6 @@ pub written-flag : (lock now : ℕ) (e : Entry) → flag (updated (Write lock) n
 unfolding updated
 written-flag lock now e = flag-stampOf now frozenFlag (omega arith)
 
-pub written-time : (lock now : ℕ) (e : Entry) → timeOfWrite (updated (Write lock) now e) ≡ now
-unfolding updated
-written-time lock now e = timeOfWrite-stampOf lock now frozenFlag (omega arith)
-
 -- an unfreeze
 pub unfrozen-word : (now : ℕ) (e : Entry) → updated Unfreeze now e .word ≡ expiryAt now (e .word)
 unfolding updated
@@ -111,9 +101,3 @@ unfolding allowed
 allowed-unfreeze Free e = absurd (false≢true e)
 allowed-unfreeze Frozen e = refl
 allowed-unfreeze Counting e = absurd (false≢true e)
-
-pub allowed-increment : (value : ℕ) (s : State) → allowed (Increment value) s ≡ true → (s ≡ Frozen) ⊎ (s ≡ Counting)
-unfolding allowed
-allowed-increment value Free e = absurd (false≢true e)
-allowed-increment value Frozen e = inl refl
-allowed-increment value Counting e = inr refl

@@ -15,7 +15,7 @@ use Rattle.memory.specs.Memory.{groups}
 use Rattle.validity.proofs.ValidLaw.{facts}
 use Rattle.machine.specs.Command.{Box, Command, kindOf}
 use Rattle.machine.specs.Question.{refusal, questions}
-use Rattle.machine.specs.Step.{step, padded, Accepted}
+use Rattle.machine.specs.Step.{step, padded}
 use Rattle.machine.specs.Claims.{PapersBufferSizes, IsFirstNo, PassesIfAllYes, KindsAreOneToTen, NumberIsFirstNo, RefusalAltersNothing}
 use Rattle.machine.specs.Claims.{AcceptedLeavesValid, StaysValid, InvalidRefuses, ByteBox, StepKeepsBytes, SameLengths, StepKeepsLengths}
 use Rattle.machine.specs.Claims.{FormattingFormats}

@@ -7,17 +7,17 @@ use Rattle.machine.specs.Command.{Box, Command, Outcome, boxOf, commandO
 use Rattle.machine.specs.Format.{FormatOutcome, formatOutcomeOf}
 
 -- a reference to a byte slice
-abbrev pub Bytes : Type 0
-Bytes = RefT (List ℕ)
+abbrev pub ByteSlice : Type 0
+ByteSlice = RefT (List ℕ)
 
-abbrev pub boxAt : Bytes → Bytes → Box
+abbrev pub boxAt : ByteSlice → ByteSlice → Box
 boxAt memory disk = boxOf (now memory) (now disk)
 
-abbrev pub commandAt : ℕ → ℕ → ℕ → ℕ → Bytes → Bytes → Bytes → Command
+abbrev pub commandAt : ℕ → ℕ → ℕ → ℕ → ByteSlice → ByteSlice → ByteSlice → Command
 commandAt kind block time value content proof answer = commandOf kind block time value (now content) (now proof) (now answer)
 
-abbrev pub outcomeAt : ℕ → Bytes → Bytes → Bytes → Outcome
+abbrev pub outcomeAt : ℕ → ByteSlice → ByteSlice → ByteSlice → Outcome
 outcomeAt number memory disk answer = outcomeOf number (now memory) (now disk) (now answer)
 
-abbrev pub formatOutcomeAt : ℕ → Bytes → Bytes → FormatOutcome
+abbrev pub formatOutcomeAt : ℕ → ByteSlice → ByteSlice → FormatOutcome
 formatOutcomeAt number memory disk = formatOutcomeOf number (now memory) (now disk)

@@ -1,6 +1,6 @@
 -- The range of the fields of a memory of bytes, and that a change leaves it a memory of bytes. Assumes nothing.
 use mathlib.Core.List.{List}
-use Prim.Native.Nat.{ℕ, _-_, _^_, _<_}
+use Prim.Native.Nat.{ℕ, _-_, _<_}
 use native.Mathlib.Omega.{arith}
 use Rattle.octets.specs.Part.{AreBytes, repeated}
 use Rattle.octets.proofs.BelowLaw.{below-part, below-replaced}
@@ -8,9 +8,9 @@ use Rattle.octets.proofs.RepeatedLaw.{repeated-below}
 use Rattle.octets.proofs.NumberLaw.{withNumber-are, numberAt-small}
 use Rattle.lockpage.specs.Geometry.{Geometry, Proper}
 use Rattle.lockpage.specs.Size.{pageSize}
-use Rattle.memory.specs.Layout.{memorySize, saltStart, saltSize, countsStart, countSize, countStart, timeStart, timeSize, groupsStart, heldStart}
+use Rattle.memory.specs.Layout.{memorySize, saltStart, countsStart, countSize, timeStart, timeSize, groupsStart, heldStart}
 use Rattle.memory.specs.Layout.{byteSize, pageStart}
-use Rattle.memory.specs.Memory.{salt, count, lastTime, groups, held, none, heldPage, withSalt, withCount, withNoCounts, withLastTime, withGroups}
+use Rattle.memory.specs.Memory.{groups, none, heldPage, withSalt, withCount, withNoCounts, withLastTime, withGroups}
 use Rattle.memory.specs.Memory.{withHeld, withHeldPage, holding, holdingNone, formattedMemory}
 
 -- γ is any proper geometry
@@ -18,29 +18,13 @@ module _ {γ : Geometry} (σ : Proper γ) where
   module _ (m : List ℕ) (b : AreBytes m) where
     -- ---- the fields
 
-    pub salt-bytes : AreBytes (salt m)
-    unfolding salt
-    salt-bytes = below-part 256 m saltStart saltSize b
-
     pub heldPage-bytes : AreBytes (heldPage γ m)
     unfolding heldPage
     heldPage-bytes = below-part 256 m (pageStart γ) (pageSize γ) b
 
-    pub count-small : (g : ℕ) → count m g < 256 ^ countSize
-    unfolding count
-    count-small g = numberAt-small m (countStart g) countSize b
-
-    pub lastTime-small : lastTime γ m < 256 ^ timeSize
-    unfolding lastTime
-    lastTime-small = numberAt-small m (timeStart γ) timeSize b
-
     pub groups-small : groups γ m < 256
     unfolding groups
     groups-small = numberAt-small m (groupsStart γ) byteSize b
-
-    pub held-small : held γ m < 256
-    unfolding held
-    held-small = numberAt-small m (heldStart γ) byteSize b
 
     -- ---- the changes
 

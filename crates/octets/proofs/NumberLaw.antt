@@ -15,7 +15,7 @@ use Rattle.octets.specs.Part.{AreBytes, part, replaced, repeated}
 use Rattle.octets.specs.Number.{number, bytes, numberAt, withNumber}
 use Rattle.octets.proofs.BelowLaw.{below-none, below-cons, below-head, below-tail, below-part, below-replaced}
 use Rattle.octets.proofs.PartLaw.{part-length, part-add, part-length-min}
-use Rattle.octets.proofs.ReplacedLaw.{replaced-length, replaced-sets, replaced-append, replaced-own, part-same, part-other}
+use Rattle.octets.proofs.ReplacedLaw.{replaced-sets, replaced-append, part-same, part-other}
 
 pub bytes-length : (k n : ℕ) → length (bytes k n) ≡ k
 unfolding bytes
@@ -54,9 +54,6 @@ number-below (suc k) [] h e = omega (arith, number-below k [] h (omega arith), p
 number-below (suc k) (x ∷ l) h e =
     omega (arith, below-head 256 x l h, number-below k l (below-tail 256 x l h) (omega arith), pow-suc 256 k)
 
-pub number-small : (l : List ℕ) → AreBytes l → number l < 256 ^ length l
-number-small l h = number-below (length l) l h (omega arith)
-
 -- two runs of digits
 pub number-append : (a b : List ℕ) → number (a ++ b) ≡ number a + 256 ^ length a * number b
 unfolding number
@@ -92,10 +89,6 @@ bytes-mod (suc k) n =
 
 -- ---- a number at a place
 
-pub withNumber-length : (l : List ℕ) (at k n : ℕ) → at + k ≤ length l → length (withNumber l at k n) ≡ length l
-unfolding withNumber
-withNumber-length l at k n h = replaced-length l at (bytes k n) (omega (arith, bytes-length k n))
-
 pub withNumber-are : (l : List ℕ) (at k n : ℕ) → AreBytes l → AreBytes (withNumber l at k n)
 unfolding withNumber
 withNumber-are l at k n h = below-replaced 256 l at (bytes k n) h (bytes-are k n)
@@ -117,14 +110,6 @@ numberAt-other l at k n f j h d =
     ap number
     (part-other l at (bytes k n) f j (omega (arith, bytes-length k n))
     (subst (λ (x : ℕ). (f + j ≤ at) ⊎ (at + x ≤ f)) (sym (bytes-length k n)) d))
-
--- what was read, stored again
-pub withNumber-own : (l : List ℕ) (at k : ℕ) → AreBytes l → at + k ≤ length l → withNumber l at k (numberAt l at k) ≡ l
-unfolding numberAt withNumber
-withNumber-own l at k h e =
-    ap (λ (r : List ℕ). replaced l at r)
-    (ap (λ (n : ℕ). bytes n (number (part l at k))) (sym (part-length l at k e)) ∙ bytes-number (part l at k) (below-part 256 l at k h))
-    ∙ replaced-own l at k e
 
 -- zeros
 number-zeros : (k : ℕ) → number (repeated k 0) ≡ 0

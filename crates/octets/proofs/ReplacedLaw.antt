@@ -175,14 +175,6 @@ replaced-end l at new e =
 pub all-copied : (l new r : List ℕ) (at n : ℕ) → length new ≡ n → r ≡ replaced l at (part new 0 n) → r ≡ replaced l at new
 all-copied l new r at n s e = e ∙ ap (replaced l at) (part-all new n (omega arith))
 
--- what stands there already
-pub replaced-own : (l : List ℕ) (at n : ℕ) → at + n ≤ length l → replaced l at (part l at n) ≡ l
-unfolding part
-replaced-own l at n h =
-    sym (replaced-lent l at n (part l at n) (part-length l at n h))
-    ∙ ap (λ (x : List ℕ). take at l ++ x) (take-append-drop n (drop at l))
-    ∙ take-append-drop at l
-
 -- ---- stores of single elements
 
 -- a run of them is one replacement

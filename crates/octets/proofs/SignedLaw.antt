@@ -9,19 +9,12 @@ use lib.IntN.{ℤ, pos, negsuc, natAbs}
 use lib.Signed.{ltZ, nonNeg}
 use mir.Syntax.{w64}
 use mir.Val.{Fits, SFits, ofZ, toZ}
-use mir.ValLaws.{toZ-pos, toZ-ofZ, ofZ-toZ}
+use mir.ValLaws.{toZ-pos, toZ-ofZ}
 use Rattle.octets.specs.Signed.{twos, signed}
 
 -- number, bits, number; bits, number, bits
 pub signed-twos : (z : ℤ) → SFits w64 z → signed (twos z) ≡ z
 signed-twos z h = toZ-ofZ w64 z h
-
-pub twos-signed : (n : ℕ) → n < 2 ^ 64 → twos (signed n) ≡ n
-twos-signed n h = ofZ-toZ w64 n (record { fits = h })
-
-pub twos-small : (z : ℤ) → SFits w64 z → twos z < 2 ^ 64
-twos-small (pos n) h = omega (arith, h .sfits)
-twos-small (negsuc n) h = omega arith
 
 -- the complement of -1 - n is n
 flipped : (n : ℕ) → n < 2 ^ 63 → toZ w64 (18446744073709551615 - ofZ w64 (negsuc n)) ≡ pos n

@@ -1,15 +1,13 @@
 -- `effects::changes::change` meets its contract: the held page of another group and the content stored, the changed page held and
 -- answered with its tag. Assumes nothing.
 use borrow.Author.Needs.{needs}
-use mathlib.Core.Path.{_≡_, _∙_}
+use mathlib.Core.Path.{_∙_}
 use native.Mathlib.Omega.{arith}
-use lib.ListN.{length}
 use Rattle.lockpage.specs.Geometry.{present}
 use Rattle.lockpage.proofs.GeometryLaw.{present-proper as σ}
 use Rattle.addressing.specs.Map.{groupOf}
 use Rattle.addressing.proofs.MapLaw.{groupOf-below}
 use Rattle.disk.proofs.DiskLaw.{hasGroup-of}
-use Rattle.memory.specs.Layout.{memorySize}
 use Rattle.memory.specs.Ready.{HasCount}
 use Rattle.validity.proofs.ValidLaw.{facts}
 use Rattle.effects.proofs.TimedLaw.{timed-box, timed-may}
