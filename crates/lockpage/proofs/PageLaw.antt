@@ -1,6 +1,5 @@
 -- Laws of pages: an entry after a store at the same place and at another, lengths, bytes, the blank page. Assumes nothing.
 use mathlib.Core.Path.{_≡_, refl, ap, ap₂, sym, _∙_}
-use mathlib.Core.Logic.{_⊎_, inl, inr}
 use mathlib.Core.List.{List, _++_, append-assoc, append-nil}
 use Prim.Native.Nat.{ℕ, zero, suc, _+_, _*_, _≤_, _<_}
 use native.Mathlib.Nat.{add-zero}
@@ -9,11 +8,10 @@ use native.Mathlib.Omega.{arith}
 use lib.ListN.{length, length-append}
 use Rattle.octets.specs.Part.{AreBytes, part, replaced}
 use Rattle.octets.specs.Number.{number, numberAt, withNumber, bytes}
-use Rattle.octets.proofs.OrderLaw.{apart}
 use Rattle.octets.proofs.BelowLaw.{below-none, below-append, below-part, below-replaced}
 use Rattle.octets.proofs.PartLaw.{part-part, part-first, part-right}
 use Rattle.octets.proofs.NumberLaw.{bytes-length}
-use Rattle.octets.proofs.ReplacedLaw.{replaced-length, part-same, part-other, replaced-append, replaced-all, replaced-none}
+use Rattle.octets.proofs.ReplacedLaw.{replaced-length, part-same, item-other, replaced-append, replaced-all, replaced-none}
 use Rattle.lockpage.specs.Geometry.{Geometry, Proper}
 use Rattle.lockpage.specs.declared.Entry.{Entry}
 use Rattle.lockpage.specs.Size.{wordSize, entrySize, pageSize}
@@ -37,13 +35,7 @@ module _ (p : List ℕ) (i : ℕ) (e : Entry) (inside : entrySize * i + entrySiz
 
   pub entryAt-other : (j : ℕ) → (j ≡ i → ⊥) → entryAt (withEntry p i e) j ≡ entryAt p j
   unfolding entryAt withEntry
-  entryAt-other j n =
-      ap entryOf
-      (part-other p (entrySize * i) (entryBytes e) (entrySize * j) entrySize (omega (arith, entryBytes-length e)) (go (apart j i n)))
-    where
-      go : (j < i) ⊎ (i < j) → (entrySize * j + entrySize ≤ entrySize * i) ⊎ (entrySize * i + length (entryBytes e) ≤ entrySize * j)
-      go (inl k) = inl (omega arith)
-      go (inr k) = inr (omega (arith, entryBytes-length e))
+  entryAt-other j n = ap entryOf (item-other p entrySize i (entryBytes e) (entryBytes-length e) inside j n)
 
 -- an entry of a list of bytes, however long, has its eight bytes
 pub entryAt-fits : (p : List ℕ) (i : ℕ) → AreBytes p → EntryFits (entryAt p i)

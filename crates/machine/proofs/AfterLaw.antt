@@ -25,7 +25,8 @@ use Rattle.machine.proofs.CaseLaw.{same-or-not}
 use Rattle.machine.proofs.QuestionLaw.{all-yes}
 use Rattle.machine.proofs.StepLaw.{step-accepted}
 use Rattle.machine.proofs.TagLaw.{current-other}
-use Rattle.machine.proofs.PassedLaw.{new-salt-other, Passed, Changes, passed, changes, passed-timed, changed-group, accepted-changes, timed-reads}
+use Rattle.machine.proofs.PassedLaw.{new-salt-other, Passed, Changes, passed, in-time, changes, passed-timed, changed-group, accepted-changes}
+use Rattle.machine.proofs.PassedLaw.{timed-reads}
 use Rattle.machine.proofs.EffectLaw.{left, count-changed, untouched, count-unchanged, restarted-none, restarted-held-reads, restarted-salt}
 use Rattle.machine.proofs.EffectLaw.{restarted-time, restarted-groups, restarted-drops, salted-reads}
 use Rattle.machine.proofs.ChangeLaw.{change-on-disk, not-none, put-current, put-elsewhere, change-reads, change-page, change-content}
@@ -147,7 +148,7 @@ module _ {γ : Geometry} (σ : Proper γ) where
       let t = timed γ s (c .now) in
       let qt = passed-timed σ k s c q in
       let x = accepted-changes σ k s c refl r in
-      let reads = timed-reads σ k s c q in
+      let reads = timed-reads σ s (c .now) (in-time σ k s c q) in
       let of-box : (g : ℕ) → g < groups γ (s .memory) → g < groups γ (t .memory) = λ g h. subst (λ (n : ℕ). g < n) (sym (reads .groups)) h in
       let own : (u : Update) → k ≡ Change u → groupOf γ (c .block) < groups γ (s .memory) =
       λ u e. subst (λ (n : ℕ). groupOf γ (c .block) < n) (reads .groups) (changed-group σ u t c (x u e)) in
@@ -196,7 +197,7 @@ module _ {γ : Geometry} (σ : Proper γ) where
         let q = passed σ (Change u) s c (all-yes σ (Change u) s c e r) in
         ap (λ (o : Outcome). block γ (o .box .disk) (pageBlock γ (groupOf γ (c .block)))) (step-accepted σ (Change u) s c e r)
         ∙ change-on-disk σ u t c (passed-timed σ (Change u) s c q) (accepted-changes σ (Change u) s c e r u refl)
-        (subst (λ (i : ℕ). (i ≡ none) ⊎ (i ≡ groupOf γ (c .block))) (sym (timed-reads σ (Change u) s c q .held)) h)
+        (subst (λ (i : ℕ). (i ≡ none) ⊎ (i ≡ groupOf γ (c .block))) (sym (timed-reads σ s (c .now) (in-time σ (Change u) s c q) .held)) h)
 
   pub lost-count : (s : Box) (c : Command) → kindOf c ≡ Restart → refusal γ s c ≡ 0 → held γ (s .memory) < groups γ (s .memory)
       → count (step γ s c .box .memory) (held γ (s .memory)) ≡ count (s .memory) (held γ (s .memory)) + 1

@@ -1,36 +1,40 @@
--- Demand 3: a watch for each of the three cases, and the runs that they show. Assumes nothing.
+-- Demand 3: a watch for each of the three cases, and what is claimed of the runs while a block is protected. Assumes nothing.
 use mathlib.Core.Path.{_≡_, refl, sym, subst, _∙_}
 use mathlib.Core.Bool.{Bool, true, false, false≢true}
 use mathlib.Core.Logic.{inl, inr}
 use mathlib.Core.List.{List, [], _∷_, _++_}
-use Prim.Native.Nat.{ℕ, suc, _+_, _<_}
+use Prim.Native.Nat.{ℕ, suc, _+_, _≤_, _<_}
 use native.Mathlib.Omega.{arith}
 use Rattle.octets.specs.Part.{AreBytes}
 use Rattle.lockpage.specs.Geometry.{Geometry, Proper}
 use Rattle.lockpage.specs.Entry.{timeOfWrite, flag, frozenFlag, unfrozenFlag}
 use Rattle.lockpage.specs.Update.{latestTime}
-use Rattle.lockpage.specs.Page.{entryAt}
 use Rattle.lockpage.proofs.PageLaw.{entryAt-fits}
 use Rattle.addressing.specs.Map.{groupOf, placeOf, pageBlock}
 use Rattle.disk.specs.Disk.{block}
 use Rattle.disk.proofs.DiskLaw.{block-are}
 use Rattle.memory.specs.Memory.{lastTime, held, none}
 use Rattle.machine.specs.Command.{Box, Command, kindOf}
-use Rattle.machine.specs.Step.{step, padded, Accepted}
-use Rattle.machine.specs.Run.{Event, Given, after, run, Throughout}
+use Rattle.machine.specs.Step.{step, Accepted}
+use Rattle.machine.specs.Run.{Event, Given, Queried, after, run, Throughout}
 use Rattle.machine.specs.Protection.{Unforged, NotUnfrozen, CommandShows, Shows, startContent, startEntry, Protected, FrozenUnder, CountingTo}
 use Rattle.machine.specs.Protection.{NeverUnfrozen, ShowsStart, ShownIn, SeenAlike}
 use Rattle.machine.proofs.KindLaw.{unfreeze-number}
 use Rattle.machine.proofs.QuestionLaw.{all-yes}
 use Rattle.machine.proofs.StepLaw.{step-number, accepts}
 use Rattle.machine.proofs.PassedLaw.{passed}
-use Rattle.machine.proofs.SafeLaw.{Watch, Locked}
-use Rattle.machine.proofs.ShownLaw.{Fair, run-shown}
+use Rattle.machine.proofs.SafeLaw.{Watch, Locked, Kept}
+use Rattle.machine.proofs.ShownLaw.{Fair, event-shown, run-kept}
 
--- γ is any proper geometry
-module _ {γ : Geometry} (σ : Proper γ) where
+-- when an event is
+abbrev pub timeOf : Event → ℕ
+timeOf (Given c) = c .now
+timeOf (Queried q) = q .now
+
+-- γ is the box's geometry
+module _ (γ : Geometry) where
   -- block b as it is in s, protected before the bound
-  watch : Box → ℕ → ℕ → Bool → Watch
+  unfoldable pub watch : Box → ℕ → ℕ → Bool → Watch
   watch s b bound forever =
       record {
         block = b;
@@ -41,6 +45,16 @@ module _ {γ : Geometry} (σ : Proper γ) where
         forever = forever;
       }
 
+  -- In is a claim about an event of a run from s₀, made during some times
+  pub record Claim (s₀ : Box) (b : ℕ) (In : (ℕ → Type 0) → Box → Event → Type 0) : Type 1 where
+    -- it holds before a bound until which block b is kept
+    pub kept : (bound : ℕ) (forever : Bool) (s : Box) (e : Event) → Kept γ (watch s₀ b bound forever) s → In (λ t. t < bound) s e
+    -- of the times it sees the event's own alone: if that is one of them, it is enough that the claim holds before a bound beyond it
+    pub timed : (during : ℕ → Type 0) (s : Box) (e : Event)
+        → (timeOf e ≤ latestTime → during (timeOf e) → (bound : ℕ) × (timeOf e < bound) × In (λ t. t < bound) s e) → In during s e
+
+-- γ is any proper geometry
+module _ {γ : Geometry} (σ : Proper γ) where
   -- where no more is asked of an unfreeze, or there is none, events that bring no forged page are fair
   fair : (w : Watch) (s : Box) (es : List Event) → Throughout γ (Unforged γ) s es
       → (w .forever ≡ true → Throughout γ (NotUnfrozen γ (w .block)) s es) → Throughout γ (Fair γ w) s es
@@ -49,15 +63,18 @@ module _ {γ : Geometry} (σ : Proper γ) where
     (u .0, λ r k b f. n f .0 (step-number σ s c ∙ r) (unfreeze-number (c .kind) (c .value) k) b),
     fair w (after γ s (Given c)) es (u .1) (λ f. n f .1),
   )
+  fair w s (Queried q ∷ es) u n = (tt, fair w (after γ s (Queried q)) es (u .1) (λ f. n f .1))
 
-  module _ (s : Box) (b : ℕ) (bytes : AreBytes (s .disk)) (none-held : held γ (s .memory) ≡ none) where
-    -- what is shown before the bound, where the start's entry protects the block until then
-    shown : (bound : ℕ) (forever : Bool) → Locked (watch s b bound forever) (startEntry γ s b) → (es : List Event)
-        → Throughout γ (Unforged γ) s es → (forever ≡ true → Throughout γ (NotUnfrozen γ b) s es)
-        → Throughout γ (Shows γ b (startContent γ s b) (timeOfWrite (startEntry γ s b)) (λ t. t < bound)) s es
+  module _ (s₀ : Box) (b : ℕ) (In : (ℕ → Type 0) → Box → Event → Type 0) (claim : Claim γ s₀ b In) (bytes : AreBytes (s₀ .disk))
+      (none-held : held γ (s₀ .memory) ≡ none) where
+    -- the claim before the bound, where the start's entry protects the block until then
+    before : (bound : ℕ) (forever : Bool) → Locked (watch γ s₀ b bound forever) (startEntry γ s₀ b) → (es : List Event)
+        → Throughout γ (Unforged γ) s₀ es → (forever ≡ true → Throughout γ (NotUnfrozen γ b) s₀ es)
+        → Throughout γ (In (λ t. t < bound)) s₀ es
     unfolding watch
-    shown bound forever locked es u n =
-        run-shown σ (watch s b bound forever) s es (fair (watch s b bound forever) s es u n)
+    before bound forever locked es u n =
+        let w = watch γ s₀ b bound forever in
+        run-kept σ (In (λ t. t < bound)) w (claim .kept bound forever) s₀ es (fair w s₀ es u n)
         (record {
           begun = omega arith;
           safe =
@@ -68,8 +85,8 @@ module _ {γ : Geometry} (σ : Proper γ) where
                       content = refl;
                       page =
                           record {
-                            fits = entryAt-fits (block γ (s .disk) (pageBlock γ (groupOf γ b))) (placeOf γ b)
-                                (block-are σ (s .disk) (pageBlock γ (groupOf γ b)) bytes);
+                            fits = entryAt-fits (block γ (s₀ .disk) (pageBlock γ (groupOf γ b))) (placeOf γ b)
+                                (block-are σ (s₀ .disk) (pageBlock γ (groupOf γ b)) bytes);
                             time = refl;
                             locked = locked;
                           };
@@ -78,53 +95,69 @@ module _ {γ : Geometry} (σ : Proper γ) where
               };
         })
 
+    module _ (xs ys : List Event) where
+      -- the three cases put together
+      together : (s : Box) (es : List Event)
+          → (flag (startEntry γ s₀ b .stamp) ≡ frozenFlag → Throughout γ (In (λ t. t < lastTime γ (s₀ .memory) + startEntry γ s₀ b .word)) s es)
+          → (flag (startEntry γ s₀ b .stamp) ≡ unfrozenFlag → Throughout γ (In (λ t. t < startEntry γ s₀ b .word)) s es)
+          → (flag (startEntry γ s₀ b .stamp) ≡ frozenFlag → Throughout γ (NotUnfrozen γ b) s₀ xs → Throughout γ (NotUnfrozen γ b) s₀ ys
+          → Throughout γ (In (λ t. t < suc latestTime)) s es)
+          → Throughout γ (In (Protected γ s₀ b xs ys)) s es
+      together s [] f g h = tt
+      together s (e ∷ es) f g h = (
+        claim .timed (Protected γ s₀ b xs ys) s e (λ early p. bounded early p),
+        together (after γ s e) es (λ x. f x .1) (λ x. g x .1) (λ x y z. h x y z .1),
+      )
+        where
+          bounded : timeOf e ≤ latestTime → Protected γ s₀ b xs ys (timeOf e) → (bound : ℕ) × (timeOf e < bound) × In (λ t. t < bound) s e
+          bounded early (FrozenUnder x l) = (lastTime γ (s₀ .memory) + startEntry γ s₀ b .word, l, f x .0)
+          bounded early (CountingTo x above l) = (startEntry γ s₀ b .word, l, g x .0)
+          bounded early (NeverUnfrozen x y z) = (suc latestTime, omega arith, h x y z .0)
+
+      throughout : (es : List Event) → Throughout γ (Unforged γ) s₀ es
+          → (Throughout γ (NotUnfrozen γ b) s₀ xs → Throughout γ (NotUnfrozen γ b) s₀ ys → Throughout γ (NotUnfrozen γ b) s₀ es)
+          → Throughout γ (In (Protected γ s₀ b xs ys)) s₀ es
+      unfolding watch
+      throughout es u never =
+          together s₀ es
+          (λ f. before (lastTime γ (s₀ .memory) + startEntry γ s₀ b .word) false (inl (f, inl (omega arith))) es u (λ x. absurd (false≢true x)))
+          (λ f. before (startEntry γ s₀ b .word) false (inr (f, omega arith)) es u (λ x. absurd (false≢true x)))
+          (λ f x y. before (suc latestTime) true (inl (f, inr refl)) es u (λ t. never x y))
+
+      -- so it holds in both runs while the block is protected
+      pub both-hold : Throughout γ (Unforged γ) s₀ xs → Throughout γ (Unforged γ) s₀ ys
+          → Throughout γ (In (Protected γ s₀ b xs ys)) s₀ xs × Throughout γ (In (Protected γ s₀ b xs ys)) s₀ ys
+      both-hold u v = (throughout xs u (λ x y. x), throughout ys v (λ x y. y))
+
+  -- ---- what is shown is such a claim
+
   -- an accepted command is timed before the first time that question 4 refuses
-  in-time : (s : Box) (c : Command) → Accepted γ s c → c .now < suc latestTime
-  in-time s c a = omega (arith, passed σ (kindOf c) s c (all-yes σ (kindOf c) s c refl (accepts σ s c a)) .early)
+  pub command-early : (s : Box) (c : Command) → Accepted γ s c → c .now ≤ latestTime
+  command-early s c a = passed σ (kindOf c) s c (all-yes σ (kindOf c) s c refl (accepts σ s c a)) .early
 
-  -- the three cases put together; s₀ is the start
-  module _ (s₀ : Box) (b : ℕ) (xs ys : List Event) where
-    abbrev In : (ℕ → Type 0) → Box → Event → Type 0
-    In during = Shows γ b (startContent γ s₀ b) (timeOfWrite (startEntry γ s₀ b)) during
-
-    together : (s : Box) (es : List Event)
-        → (flag (startEntry γ s₀ b .stamp) ≡ frozenFlag → Throughout γ (In (λ t. t < lastTime γ (s₀ .memory) + startEntry γ s₀ b .word)) s es)
-        → (flag (startEntry γ s₀ b .stamp) ≡ unfrozenFlag → Throughout γ (In (λ t. t < startEntry γ s₀ b .word)) s es)
-        → (flag (startEntry γ s₀ b .stamp) ≡ frozenFlag → Throughout γ (NotUnfrozen γ b) s₀ xs → Throughout γ (NotUnfrozen γ b) s₀ ys
-        → Throughout γ (In (λ t. t < suc latestTime)) s es)
-        → Throughout γ (In (Protected γ s₀ b xs ys)) s es
-    together s [] f g h = tt
-    together s (Given c ∷ es) f g h = (
-      record { read = λ a k e p. reads a k e p; entry = λ a k e p. entries a k e p },
-      together (after γ s (Given c)) es (λ x. f x .1) (λ x. g x .1) (λ x y z. h x y z .1),
-    )
-      where
-        reads : Accepted γ s c → c .kind ≡ 1 → c .block ≡ b → Protected γ s₀ b xs ys (c .now) → step γ s c .answer ≡ padded γ (startContent γ s₀ b)
-        reads a k e (FrozenUnder x l) = f x .0 .read a k e l
-        reads a k e (CountingTo x above l) = g x .0 .read a k e l
-        reads a k e (NeverUnfrozen x y z) = h x y z .0 .read a k e (in-time s c a)
-
-        entries : Accepted γ s c → c .kind ≡ 2 → c .block ≡ b → Protected γ s₀ b xs ys (c .now)
-            → timeOfWrite (entryAt (step γ s c .answer) 0) ≡ timeOfWrite (startEntry γ s₀ b)
-        entries a k e (FrozenUnder x l) = f x .0 .entry a k e l
-        entries a k e (CountingTo x above l) = g x .0 .entry a k e l
-        entries a k e (NeverUnfrozen x y z) = h x y z .0 .entry a k e (in-time s c a)
-
-  start-shown : (s : Box) (b : ℕ) (xs ys : List Event) → AreBytes (s .disk) → held γ (s .memory) ≡ none → (es : List Event)
-      → Throughout γ (Unforged γ) s es
-      → (Throughout γ (NotUnfrozen γ b) s xs → Throughout γ (NotUnfrozen γ b) s ys → Throughout γ (NotUnfrozen γ b) s es)
-      → ShowsStart γ s b xs ys es
+  shows : (s₀ : Box) (b : ℕ) → Claim γ s₀ b (Shows γ b (startContent γ s₀ b) (timeOfWrite (startEntry γ s₀ b)))
   unfolding watch
-  start-shown s b xs ys bytes n es u never =
-      together s b xs ys s es
-      (λ f. shown s b bytes n (lastTime γ (s .memory) + startEntry γ s b .word) false (inl (f, inl (omega arith))) es u (λ x. absurd (false≢true x)))
-      (λ f. shown s b bytes n (startEntry γ s b .word) false (inr (f, omega arith)) es u (λ x. absurd (false≢true x)))
-      (λ f x y. shown s b bytes n (suc latestTime) true (inl (f, inr refl)) es u (λ t. never x y))
+  shows s₀ b =
+      record {
+        kept = λ bound forever s e h. event-shown σ (watch γ s₀ b bound forever) s e h;
+        timed = cases;
+      }
+    where
+      cases : (during : ℕ → Type 0) (s : Box) (e : Event)
+          → (timeOf e ≤ latestTime → during (timeOf e)
+          → (bound : ℕ) × (timeOf e < bound) × Shows γ b (startContent γ s₀ b) (timeOfWrite (startEntry γ s₀ b)) (λ t. t < bound) s e)
+          → Shows γ b (startContent γ s₀ b) (timeOfWrite (startEntry γ s₀ b)) during s e
+      cases during s (Given c) h =
+          record {
+            read = λ a k e d. let x = h (command-early s c a) d in x .2 .read a k e (x .1);
+            entry = λ a k e d. let x = h (command-early s c a) d in x .2 .entry a k e (x .1);
+          }
+      cases during s (Queried q) h = tt
 
   pub both-shown : (s : Box) (b : ℕ) (xs ys : List Event) → AreBytes (s .disk) → held γ (s .memory) ≡ none → Throughout γ (Unforged γ) s xs
       → Throughout γ (Unforged γ) s ys → ShowsStart γ s b xs ys xs × ShowsStart γ s b xs ys ys
   both-shown s b xs ys bytes n u v =
-      (start-shown s b xs ys bytes n xs u (λ x y. x), start-shown s b xs ys bytes n ys v (λ x y. y))
+      both-hold s b (Shows γ b (startContent γ s b) (timeOfWrite (startEntry γ s b))) (shows s b) bytes n xs ys u v
 
   -- ---- one event of each run
 

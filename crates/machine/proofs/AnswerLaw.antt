@@ -2,25 +2,29 @@
 -- nothing.
 use mathlib.Core.Path.{_≡_, refl, ap, sym, _∙_}
 use mathlib.Core.List.{List, [], _∷_, _++_, append-assoc}
-use Prim.Native.Nat.{ℕ, _-_}
+use Prim.Native.Nat.{ℕ, _+_, _-_, _≤_}
+use native.Mathlib.Omega.{arith}
 use borrow.Author.Tests.{ltb-true}
-use lib.ListN.{length}
-use Rattle.octets.specs.Part.{repeated}
+use lib.ListN.{length, length-append}
+use Rattle.octets.specs.Part.{part, repeated}
+use Rattle.octets.proofs.PartLaw.{part-left, part-right, part-first, part-second}
 use Rattle.octets.proofs.EqualLaw.{equal-yes}
 use Rattle.lockpage.specs.Geometry.{Geometry, Proper}
-use Rattle.lockpage.specs.Size.{pageSize}
+use Rattle.lockpage.specs.Size.{entrySize, pageSize}
 use Rattle.lockpage.specs.declared.Entry.{Entry as PageEntry}
 use Rattle.lockpage.specs.declared.Update.{Update}
 use Rattle.lockpage.specs.Entry.{EntryFits, entryBytes}
-use Rattle.lockpage.specs.State.{state, stateNumber, timeLeftBytes}
+use Rattle.lockpage.specs.State.{state, stateNumber, timeLeftSize, timeLeftBytes}
 use Rattle.lockpage.specs.Page.{entryAt}
+use Rattle.lockpage.proofs.EntryLaw.{entryBytes-length}
+use Rattle.lockpage.proofs.StateLaw.{timeLeftBytes-length}
 use Rattle.lockpage.proofs.PageLaw.{entryAt-front}
 use Rattle.addressing.specs.Map.{groupOf, placeOf, physical}
 use Rattle.disk.specs.Disk.{block}
 use Rattle.memory.specs.Memory.{groups}
 use Rattle.machine.specs.declared.Kind.the-variants.{Read, Entry, Page, Change}
 use Rattle.machine.specs.Command.{Box, Command, Outcome, kindOf, broughtPage, broughtTag, answerSize}
-use Rattle.machine.specs.Tag.{tag, tagged, currentPage}
+use Rattle.machine.specs.Tag.{tag, tagged, currentPage, currentEntry}
 use Rattle.machine.specs.Question.{refusal}
 use Rattle.machine.specs.Effect.{entryAnswer, stored, effect, read, showEntry, showPage, changedPage, changedMemory, change}
 use Rattle.machine.specs.Step.{step, timed, padded, done}
@@ -28,7 +32,7 @@ use Rattle.machine.specs.After.{Serves, AnswerServes}
 use Rattle.machine.proofs.QuestionLaw.{all-yes}
 use Rattle.machine.proofs.StepLaw.{step-accepted, padded-full}
 use Rattle.machine.proofs.TagLaw.{tagged-length, tagged-page, tagged-tag, current-length}
-use Rattle.machine.proofs.PassedLaw.{passed, passed-timed, accepted-changes}
+use Rattle.machine.proofs.PassedLaw.{passed, in-time, passed-timed, accepted-changes}
 use Rattle.machine.proofs.EffectLaw.{changed-length}
 use Rattle.machine.proofs.TimedLaw.{current-timed}
 use Rattle.machine.proofs.AfterLaw.{own-page}
@@ -42,7 +46,16 @@ module _ {γ : Geometry} (σ : Proper γ) where
   unfolding done effect read timed
   read-answer s c e r = ap (λ (o : Outcome). o .answer) (step-accepted σ Read s c e r)
 
-  -- the entry at the start of an answer to kind 2
+  -- kind 2 names what the block has on the current page
+  entry-named : (s : Box) (c : Command) → kindOf c ≡ Entry → refusal γ s c ≡ 0
+      → step γ s c .answer ≡ padded γ (entryAnswer (c .now) (currentEntry γ s (c .block)))
+  unfolding done effect showEntry
+  entry-named s c e r =
+      let same = current-timed σ s (c .now) (in-time σ Entry s c (passed σ Entry s c (all-yes σ Entry s c e r))) (groupOf γ (c .block)) in
+      ap (λ (o : Outcome). o .answer) (step-accepted σ Entry s c e r)
+      ∙ ap (λ (p : List ℕ). padded γ (entryAnswer (c .now) (entryAt p (placeOf γ (c .block))))) same
+
+  -- the entry at the start of its answer
   answered-entry : (now : ℕ) (e : PageEntry) → EntryFits e → entryAt (padded γ (entryAnswer now e)) 0 ≡ e
   unfolding padded entryAnswer
   answered-entry now e f =
@@ -50,17 +63,39 @@ module _ {γ : Geometry} (σ : Proper γ) where
       let zeros : List ℕ = repeated (answerSize γ - length (entryBytes e ++ rest)) 0 in
       ap (λ (l : List ℕ). entryAt l 0) (append-assoc (entryBytes e) rest zeros) ∙ entryAt-front e (rest ++ zeros) f
 
-  -- it is the block's on the current page
-  pub entry-answer : (s : Box) (c : Command) → kindOf c ≡ Entry → refusal γ s c ≡ 0
-      → EntryFits (entryAt (currentPage γ s (groupOf γ (c .block))) (placeOf γ (c .block)))
-      → entryAt (step γ s c .answer) 0 ≡ entryAt (currentPage γ s (groupOf γ (c .block))) (placeOf γ (c .block))
-  unfolding done effect showEntry
-  entry-answer s c e r f =
-      let g = groupOf γ (c .block) in
-      let same = current-timed σ Entry s c (passed σ Entry s c (all-yes σ Entry s c e r)) g in
-      ap (λ (o : Outcome). entryAt (o .answer) 0) (step-accepted σ Entry s c e r)
-      ∙ ap (λ (p : List ℕ). entryAt (padded γ (entryAnswer (c .now) (entryAt p (placeOf γ (c .block))))) 0) same
-      ∙ answered-entry (c .now) (entryAt (currentPage γ s g) (placeOf γ (c .block))) f
+  pub entry-answer : (s : Box) (c : Command) → kindOf c ≡ Entry → refusal γ s c ≡ 0 → EntryFits (currentEntry γ s (c .block))
+      → entryAt (step γ s c .answer) 0 ≡ currentEntry γ s (c .block)
+  entry-answer s c e r f = ap (λ (l : List ℕ). entryAt l 0) (entry-named s c e r) ∙ answered-entry (c .now) (currentEntry γ s (c .block)) f
+
+  -- behind it the time left, and the state
+  behind-entry : (now : ℕ) (e : PageEntry) (at n : ℕ) → at + n ≤ timeLeftSize + 1
+      → part (padded γ (entryAnswer now e)) (entrySize + at) n ≡ part (timeLeftBytes now e ++ (stateNumber (state now e) ∷ [])) at n
+  unfolding padded entryAnswer
+  behind-entry now e at n h =
+      let rest : List ℕ = timeLeftBytes now e ++ (stateNumber (state now e) ∷ []) in
+      let named : List ℕ = entryBytes e ++ rest in
+      let size : length rest ≡ timeLeftSize + 1 =
+      length-append (timeLeftBytes now e) (stateNumber (state now e) ∷ []) ∙ omega (arith, timeLeftBytes-length now e) in
+      part-left named (repeated (answerSize γ - length named) 0) (entrySize + at) n
+      (omega (arith, length-append (entryBytes e) rest, entryBytes-length e))
+      ∙ ap (λ (i : ℕ). part named (i + at) n) (sym (entryBytes-length e))
+      ∙ part-right (entryBytes e) rest at n
+
+  pub left-answer : (s : Box) (c : Command) → kindOf c ≡ Entry → refusal γ s c ≡ 0
+      → part (step γ s c .answer) entrySize timeLeftSize ≡ timeLeftBytes (c .now) (currentEntry γ s (c .block))
+  left-answer s c e r =
+      let x = currentEntry γ s (c .block) in
+      ap (λ (l : List ℕ). part l entrySize timeLeftSize) (entry-named s c e r)
+      ∙ behind-entry (c .now) x 0 timeLeftSize (omega arith)
+      ∙ part-first (timeLeftBytes (c .now) x) (stateNumber (state (c .now) x) ∷ []) timeLeftSize (timeLeftBytes-length (c .now) x)
+
+  pub state-answer : (s : Box) (c : Command) → kindOf c ≡ Entry → refusal γ s c ≡ 0
+      → part (step γ s c .answer) (entrySize + timeLeftSize) 1 ≡ stateNumber (state (c .now) (currentEntry γ s (c .block))) ∷ []
+  state-answer s c e r =
+      let x = currentEntry γ s (c .block) in
+      ap (λ (l : List ℕ). part l (entrySize + timeLeftSize) 1) (entry-named s c e r)
+      ∙ behind-entry (c .now) x timeLeftSize 1 (omega arith)
+      ∙ part-second (timeLeftBytes (c .now) x) (stateNumber (state (c .now) x) ∷ []) timeLeftSize 1 (timeLeftBytes-length (c .now) x) refl
 
   -- ---- kinds 3 to 6
 

@@ -185,7 +185,7 @@ module _ {γ : Geometry} (σ : Proper γ) where
       ap (λ (o : Outcome). length (o .answer)) (step-accepted σ k s c refl r)
       ∙ padded-length σ (effect γ k (timed γ s (c .now)) c .named) (named-short k (timed γ s (c .now)) c q (accepted-changes σ k s c refl r))
 
-  pub accepted-bytes : (s : Box) (c : Command) → refusal γ s c ≡ 0 → ByteBox s → ByteCommand c → Stored γ s c
+  pub accepted-bytes : (s : Box) (c : Command) → refusal γ s c ≡ 0 → ByteBox s → ByteCommand c → Stored (step γ s c .box) (step γ s c .answer)
   unfolding done timed
   accepted-bytes s c r b d =
       let k = kindOf c in

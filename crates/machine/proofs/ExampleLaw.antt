@@ -19,9 +19,9 @@ use Rattle.lockpage.specs.declared.Update.{Update}
 use Rattle.lockpage.specs.Entry.{EntryFits}
 use Rattle.lockpage.specs.State.{state}
 use Rattle.lockpage.specs.Update.{latestTime, updated, allowed, withinLimit}
-use Rattle.lockpage.specs.Page.{entryAt, withEntry}
+use Rattle.lockpage.specs.Page.{entryAt, withEntry, blankEntry}
 use Rattle.lockpage.proofs.GeometryLaw.{base-proper}
-use Rattle.lockpage.proofs.PageLaw.{entry-within, entryAt-same}
+use Rattle.lockpage.proofs.PageLaw.{entry-within, entryAt-same, entryAt-other}
 use Rattle.addressing.specs.Map.{diskSize, dataBlocks, groupOf, placeOf, pageBlock}
 use Rattle.addressing.proofs.MapLaw.{placeOf-below}
 use Rattle.disk.specs.Disk.{block}
@@ -42,22 +42,26 @@ use Rattle.machine.specs.Example.{updating, plain}
 use Rattle.machine.proofs.QuestionLaw.{yes-accepted, all-yes}
 use Rattle.machine.proofs.StepLaw.{step-accepted}
 use Rattle.machine.proofs.TagLaw.{tagged-length, tagged-page, tagged-tag, current-length, current-other}
-use Rattle.machine.proofs.PassedLaw.{passed, timed-reads}
+use Rattle.machine.proofs.PassedLaw.{Timely, passed, in-time, timed-reads}
 use Rattle.machine.proofs.ValidBoxLaw.{accepted-valid}
 use Rattle.machine.proofs.TimedLaw.{current-timed}
 use Rattle.machine.proofs.AfterLaw.{accepted-after, own-page, own-count, own-held, own-on-disk, lost-count}
 use Rattle.machine.proofs.AnswerLaw.{entry-answer}
 
--- what is known of block 0 of a box of one group: the last time, the count, the held group, the entry on the current page and on the
--- disk's
+-- what a page of group 0 has: block 0's entry e, and block 1's, which is never written
+pub record OnPage (e : PageEntry) (p : List ℕ) : Type 0 where
+  pub written : entryAt p 0 ≡ e
+  pub unwritten : entryAt p 1 ≡ blankEntry
+
+-- what is known of a box of one group: the last time, the count, the held group, what the current page has and the disk's
 pub record Known (time counted holds : ℕ) (now-entry disk-entry : PageEntry) (s : Box) : Type 0 where
   pub valid : ValidBox base s
   pub one : groups base (s .memory) ≡ 1
   pub last : lastTime base (s .memory) ≡ time
   pub count-is : count (s .memory) 0 ≡ counted
   pub held-is : held base (s .memory) ≡ holds
-  pub current : entryAt (currentPage base s 0) 0 ≡ now-entry
-  pub on-disk : entryAt (block base (s .disk) (pageBlock base 0)) 0 ≡ disk-entry
+  pub current : OnPage now-entry (currentPage base s 0)
+  pub on-disk : OnPage disk-entry (block base (s .disk) (pageBlock base 0))
 
 -- ---- an update of block 0 that brings the current page
 
@@ -80,7 +84,7 @@ module _ {time counted holds : ℕ} {e d : PageEntry} {s : Box} (h : Known time 
   unfolding refusal questions groupOf placeOf dataBlocks
   served u kind now value content k later early unexhausted size may within =
       let c = updating s kind now value content in
-      let found : broughtEntry base c ≡ e = ap (λ (p : List ℕ). entryAt p 0) (brings kind now value content) ∙ h .current in
+      let found : broughtEntry base c ≡ e = ap (λ (p : List ℕ). entryAt p 0) (brings kind now value content) ∙ h .current .written in
       ap (λ (i : Kind). firstNo (questionsTo base i s c)) k
       ∙ yes-accepted (questionsTo base (Change u) s c) (
         h .valid .memory,
@@ -123,8 +127,9 @@ module _ {time counted holds : ℕ} {e d : PageEntry} {s : Box} (h : Known time 
       let c = updating s kind now value content in
       let a = accepted-after base-proper s c r in
       let p = broughtPage base (c .proof) in
-      let found : broughtEntry base c ≡ e = ap (λ (p : List ℕ). entryAt p 0) (brings kind now value content) ∙ h .current in
+      let found : broughtEntry base c ≡ e = ap (λ (p : List ℕ). entryAt p 0) (brings kind now value content) ∙ h .current .written in
       let size : length p ≡ pageSize base = ap (λ (l : List ℕ). length l) (brings kind now value content) ∙ page-length in
+      let inside = entry-within base-proper p 0 size (placeOf-below base-proper 0) in
       record {
         valid = accepted-valid base-proper s c r;
         one = a .same-groups ∙ h .one;
@@ -132,13 +137,19 @@ module _ {time counted holds : ℕ} {e d : PageEntry} {s : Box} (h : Known time 
         count-is = own-count base-proper u s c k r ∙ ap (λ (n : ℕ). n + 1) (h .count-is);
         held-is = own-held base-proper u s c k r;
         current =
-            ap (λ (q : List ℕ). entryAt q 0) (own-page base-proper u s c k r)
-            ∙ ap (λ (i : PageEntry). entryAt (withEntry p 0 (updated u now i)) 0) found
-            ∙ entryAt-same p 0 (updated u now e) (entry-within base-proper p 0 size (placeOf-below base-proper 0)) fits;
+            subst (OnPage (updated u now e)) (sym (own-page base-proper u s c k r))
+            (record {
+              written =
+                  ap (λ (i : PageEntry). entryAt (withEntry p 0 (updated u now i)) 0) found ∙ entryAt-same p 0 (updated u now e) inside fits;
+              unwritten =
+                  entryAt-other p 0 (updated u now (broughtEntry base c)) inside 1 (λ x. omega arith)
+                  ∙ ap (λ (q : List ℕ). entryAt q 1) (brings kind now value content)
+                  ∙ h .current .unwritten;
+            });
         on-disk =
-            ap (λ (q : List ℕ). entryAt q 0)
-            (own-on-disk base-proper u s c k r (subst (λ (i : ℕ). (i ≡ none) ⊎ (i ≡ 0)) (sym (h .held-is)) held-here))
-            ∙ h .on-disk;
+            subst (OnPage d)
+            (sym (own-on-disk base-proper u s c k r (subst (λ (i : ℕ). (i ≡ none) ⊎ (i ≡ 0)) (sym (h .held-is)) held-here)))
+            (h .on-disk);
       }
 
   -- ---- a read, an entry, a sync and a restart are accepted
@@ -192,35 +203,40 @@ module _ {time counted holds : ℕ} {e d : PageEntry} {s : Box} (h : Known time 
   pub entry-answers : (now : ℕ) → refusal base s (plain 2 now) ≡ 0 → EntryFits e → entryAt (step base s (plain 2 now) .answer) 0 ≡ e
   unfolding kindNumbered groupOf placeOf
   entry-answers now r fits =
-      entry-answer base-proper s (plain 2 now) refl r (subst EntryFits (sym (h .current)) fits) ∙ h .current
+      entry-answer base-proper s (plain 2 now) refl r (subst EntryFits (sym (h .current .written)) fits) ∙ h .current .written
 
   -- ---- what they leave
 
-  -- a command that sets only the last time
-  timed-known : (c : Command) → refusal base s c ≡ 0 → step base s c .box ≡ timed base s (c .now)
-      → Known (c .now) counted holds e d (step base s c .box)
+  -- what sets only the last time
+  pub timed-known : (now : ℕ) (t : Box) → Timely base s now → t ≡ timed base s now → ValidBox base t → Known now counted holds e d t
   unfolding timed
-  timed-known c r same =
-      let q = passed base-proper (kindOf c) s c (all-yes base-proper (kindOf c) s c refl r) in
-      let reads = timed-reads base-proper (kindOf c) s c q in
-      subst (Known (c .now) counted holds e d) (sym same)
+  timed-known now t q same valid =
+      let reads = timed-reads base-proper s now q in
+      subst (Known now counted holds e d) (sym same)
       (record {
-        valid = subst (ValidBox base) same (accepted-valid base-proper s c r);
+        valid = subst (ValidBox base) same valid;
         one = reads .groups ∙ h .one;
         last = reads .time;
         count-is = reads .count 0 (lit< tt) ∙ h .count-is;
         held-is = reads .held ∙ h .held-is;
-        current = ap (λ (p : List ℕ). entryAt p 0) (current-timed base-proper (kindOf c) s c q 0) ∙ h .current;
+        current = subst (OnPage e) (sym (current-timed base-proper s now q 0)) (h .current);
         on-disk = h .on-disk;
       })
 
+  command-known : (c : Command) → refusal base s c ≡ 0 → step base s c .box ≡ timed base s (c .now)
+      → Known (c .now) counted holds e d (step base s c .box)
+  command-known c r same =
+      timed-known (c .now) (step base s c .box)
+      (in-time base-proper (kindOf c) s c (passed base-proper (kindOf c) s c (all-yes base-proper (kindOf c) s c refl r))) same
+      (accepted-valid base-proper s c r)
+
   pub read-known : (now : ℕ) → refusal base s (plain 1 now) ≡ 0 → Known now counted holds e d (step base s (plain 1 now) .box)
   unfolding kindNumbered done effect read stored timed
-  read-known now r = timed-known (plain 1 now) r (ap (λ (o : Outcome). o .box) (step-accepted base-proper Read s (plain 1 now) refl r))
+  read-known now r = command-known (plain 1 now) r (ap (λ (o : Outcome). o .box) (step-accepted base-proper Read s (plain 1 now) refl r))
 
   pub entry-known : (now : ℕ) → refusal base s (plain 2 now) ≡ 0 → Known now counted holds e d (step base s (plain 2 now) .box)
   unfolding kindNumbered done effect showEntry stored timed
-  entry-known now r = timed-known (plain 2 now) r (ap (λ (o : Outcome). o .box) (step-accepted base-proper Entry s (plain 2 now) refl r))
+  entry-known now r = command-known (plain 2 now) r (ap (λ (o : Outcome). o .box) (step-accepted base-proper Entry s (plain 2 now) refl r))
 
   -- group 0's page on a disk is the current one where none is held
   page-on-disk : (t : Box) → held base (t .memory) ≡ none → block base (t .disk) (pageBlock base 0) ≡ currentPage base t 0
@@ -233,7 +249,7 @@ module _ {time counted holds : ℕ} {e d : PageEntry} {s : Box} (h : Known time 
       let t = step base s c .box in
       let a = accepted-after base-proper s c r in
       let here : 0 < groups base (s .memory) = omega (arith, h .one) in
-      let page : entryAt (currentPage base t 0) 0 ≡ e = ap (λ (p : List ℕ). entryAt p 0) (a .page 0 here) ∙ h .current in
+      let page = subst (OnPage e) (sym (a .page 0 here)) (h .current) in
       record {
         valid = accepted-valid base-proper s c r;
         one = a .same-groups ∙ h .one;
@@ -241,7 +257,7 @@ module _ {time counted holds : ℕ} {e d : PageEntry} {s : Box} (h : Known time 
         count-is = a .counts 0 here ∙ h .count-is;
         held-is = a .held-group;
         current = page;
-        on-disk = ap (λ (p : List ℕ). entryAt p 0) (page-on-disk t (a .held-group)) ∙ page;
+        on-disk = subst (OnPage e) (sym (page-on-disk t (a .held-group))) page;
       }
 
   pub restart-known : (now : ℕ) → refusal base s (plain 8 now) ≡ 0 → holds ≡ 0 → Known now (counted + 1) none d d (step base s (plain 8 now) .box)
@@ -252,7 +268,7 @@ module _ {time counted holds : ℕ} {e d : PageEntry} {s : Box} (h : Known time 
       let a = accepted-after base-proper s c r in
       let here : 0 < groups base (s .memory) = omega (arith, h .one) in
       let is-held : held base (s .memory) ≡ 0 = h .held-is ∙ z in
-      let page : entryAt (currentPage base t 0) 0 ≡ d = ap (λ (p : List ℕ). entryAt p 0) (a .page 0 here) ∙ h .on-disk in
+      let page = subst (OnPage d) (sym (a .page 0 here)) (h .on-disk) in
       let up : count (t .memory) 0 ≡ count (s .memory) 0 + 1 =
       subst (λ (i : ℕ). count (t .memory) i ≡ count (s .memory) i + 1) is-held (lost-count base-proper s c refl r (omega arith)) in
       record {
@@ -262,5 +278,5 @@ module _ {time counted holds : ℕ} {e d : PageEntry} {s : Box} (h : Known time 
         count-is = up ∙ ap (λ (n : ℕ). n + 1) (h .count-is);
         held-is = a .held-group;
         current = page;
-        on-disk = ap (λ (p : List ℕ). entryAt p 0) (page-on-disk t (a .held-group)) ∙ page;
+        on-disk = subst (OnPage d) (sym (page-on-disk t (a .held-group))) page;
       }

@@ -1,9 +1,8 @@
--- The commands of specs/Example.antt, one after the other: each is accepted. Assumes nothing.
-use mathlib.Core.Path.{_≡_, refl, ap, sym, _∙_}
+-- The events of specs/Example.antt, one after the other: each is accepted. Assumes nothing.
+use mathlib.Core.Path.{_≡_, refl, subst, _∙_}
 use mathlib.Mathlib.Data.Bool.Basic.{and-intro}
 use mathlib.Core.Logic.{inl}
-use mathlib.Core.List.{List, []}
-use Prim.Native.Nat.{ℕ}
+use mathlib.Core.List.{[]}
 use native.Mathlib.Omega.{arith}
 use borrow.Author.Tests.{eq-eqb}
 use lib.Dec.{lit<, lit≤}
@@ -16,7 +15,7 @@ use Rattle.lockpage.specs.declared.Update.the-variants.{Write, Unfreeze}
 use Rattle.lockpage.specs.Entry.{entry, timeOfWrite, flag, isFrozen}
 use Rattle.lockpage.specs.State.{state}
 use Rattle.lockpage.specs.Update.{expiryAt, updated, allowed, wordLimit, withinLimit}
-use Rattle.lockpage.specs.Page.{entryAt, blankEntry}
+use Rattle.lockpage.specs.Page.{blankEntry}
 use Rattle.lockpage.proofs.GeometryLaw.{base-proper}
 use Rattle.addressing.specs.Map.{diskSize, dataBlocks, groupOf, placeOf}
 use Rattle.memory.specs.Layout.{memorySize, saltSize}
@@ -25,14 +24,17 @@ use Rattle.machine.specs.Command.{Box, boxOf, kindNumbered}
 use Rattle.machine.specs.Tag.{currentPage}
 use Rattle.machine.specs.Question.{refusal}
 use Rattle.machine.specs.Format.{formatQuestions, format}
+use Rattle.machine.specs.Query.{queryRefusal}
 use Rattle.machine.specs.Claims.{Formats}
-use Rattle.machine.specs.Example.{formattedBox, writing, writtenBox, syncing, start, unfreezing, unfrozenBox, showing, shownBox, restarting}
-use Rattle.machine.specs.Example.{restartedBox, readingBack, readBox, unfreezingAgain, countingBox, overwriting, showingOther, otherBox, readingOther}
+use Rattle.machine.specs.Example.{formattedBox, writing, writtenBox, syncing, start, unfreezing, unfrozenBox, showing, shownBox, listing}
+use Rattle.machine.specs.Example.{listedBox, restarting, restartedBox, readingBack, readBox, unfreezingAgain, countingBox, overwriting, showingOther}
+use Rattle.machine.specs.Example.{otherBox, listingOther, otherListedBox, readingOther}
 use Rattle.machine.proofs.QuestionLaw.{yes-accepted}
 use Rattle.machine.proofs.TagLaw.{current-other}
 use Rattle.machine.proofs.FormatLaw.{formats}
-use Rattle.machine.proofs.ExampleLaw.{Known, served, updated-known, read-served, entry-served, sync-served, restart-served, read-known, entry-known}
-use Rattle.machine.proofs.ExampleLaw.{sync-known, restart-known}
+use Rattle.machine.proofs.ExampleLaw.{OnPage, Known, served, updated-known, read-served, entry-served, sync-served, restart-served, read-known}
+use Rattle.machine.proofs.ExampleLaw.{entry-known, sync-known, restart-known}
+use Rattle.machine.proofs.ExampleQueryLaw.{asking-served, asking-known}
 
 -- ---- the formatted box
 
@@ -59,7 +61,11 @@ pub known-formatted : Known 0 0 none blankEntry blankEntry formattedBox
 unfolding formattedBox zeroBox groupOf placeOf dataBlocks
 known-formatted =
     let r = as-formatted .reads format-passes in
-    let page : entryAt (currentPage base formattedBox 0) 0 ≡ blankEntry = as-formatted .blank format-passes 0 (lit< tt) in
+    let page : OnPage blankEntry (currentPage base formattedBox 0) =
+    record {
+      written = as-formatted .blank format-passes 0 (lit< tt);
+      unwritten = as-formatted .blank format-passes 1 (lit< tt);
+    } in
     record {
       valid = as-formatted .valid format-passes;
       one = r .groups;
@@ -67,7 +73,7 @@ known-formatted =
       count-is = r .count 0 (lit< tt);
       held-is = r .held;
       current = page;
-      on-disk = ap (λ (p : List ℕ). entryAt p 0) (sym (current-other base-proper formattedBox 0 (λ e. omega (arith, r .held)))) ∙ page;
+      on-disk = subst (OnPage blankEntry) (current-other base-proper formattedBox 0 (λ e. omega (arith, r .held))) page;
     }
 
 -- ---- each command of the run
@@ -103,16 +109,23 @@ known-unfrozen =
 pub showing-served : refusal base unfrozenBox showing ≡ 0
 showing-served = entry-served known-unfrozen 1250 (lit≤ tt) (lit≤ tt)
 
-known-shown : Known 1250 2 0 (entry 1700 2001) (entry 500 2000) shownBox
+pub known-shown : Known 1250 2 0 (entry 1700 2001) (entry 500 2000) shownBox
 unfolding shownBox
 known-shown = entry-known known-unfrozen 1250 showing-served
 
-pub restarting-served : refusal base shownBox restarting ≡ 0
-restarting-served = restart-served known-shown 1300 (lit≤ tt) (lit≤ tt)
+pub listing-served : queryRefusal base shownBox listing ≡ 0
+listing-served = asking-served known-shown 1275 (lit≤ tt) (lit≤ tt)
+
+known-listed : Known 1275 2 0 (entry 1700 2001) (entry 500 2000) listedBox
+unfolding listedBox
+known-listed = asking-known known-shown 1275 listing-served
+
+pub restarting-served : refusal base listedBox restarting ≡ 0
+restarting-served = restart-served known-listed 1300 (lit≤ tt) (lit≤ tt)
 
 known-restarted : Known 1300 3 none (entry 500 2000) (entry 500 2000) restartedBox
 unfolding restartedBox
-known-restarted = restart-known known-shown 1300 restarting-served refl
+known-restarted = restart-known known-listed 1300 restarting-served refl
 
 pub reading-back-served : refusal base restartedBox readingBack ≡ 0
 reading-back-served = read-served known-restarted 1350 (lit≤ tt) (lit≤ tt)
@@ -141,9 +154,16 @@ overwriting-served =
 pub showing-other-served : refusal base start showingOther ≡ 0
 showing-other-served = entry-served known-start 1450 (lit≤ tt) (lit≤ tt)
 
-known-other : Known 1450 1 none (entry 500 2000) (entry 500 2000) otherBox
+pub known-other : Known 1450 1 none (entry 500 2000) (entry 500 2000) otherBox
 unfolding otherBox
 known-other = entry-known known-start 1450 showing-other-served
 
-pub reading-other-served : refusal base otherBox readingOther ≡ 0
-reading-other-served = read-served known-other 1499 (lit≤ tt) (lit≤ tt)
+pub listing-other-served : queryRefusal base otherBox listingOther ≡ 0
+listing-other-served = asking-served known-other 1475 (lit≤ tt) (lit≤ tt)
+
+known-other-listed : Known 1475 1 none (entry 500 2000) (entry 500 2000) otherListedBox
+unfolding otherListedBox
+known-other-listed = asking-known known-other 1475 listing-other-served
+
+pub reading-other-served : refusal base otherListedBox readingOther ≡ 0
+reading-other-served = read-served known-other-listed 1499 (lit≤ tt) (lit≤ tt)

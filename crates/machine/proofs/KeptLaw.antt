@@ -27,7 +27,7 @@ use Rattle.machine.specs.Effect.{stored, effect, read, showEntry, showPa
 use Rattle.machine.specs.Effect.{newSalt, identify}
 use Rattle.machine.specs.Step.{timed}
 use Rattle.machine.proofs.TagLaw.{current, brought-length}
-use Rattle.machine.proofs.PassedLaw.{Passed, Changes, changed-group, timed-reads}
+use Rattle.machine.proofs.PassedLaw.{Timely, Passed, Changes, changed-group, timed-reads}
 use Rattle.machine.proofs.EffectLaw.{left, EachStore, each-append, each-put, each-evicted, held-whole, content-whole, changed-length, changed-reads}
 use Rattle.machine.proofs.EffectLaw.{restarted-time, restarted-drops, salted-reads}
 use Rattle.machine.proofs.SafeLaw.{Watch, Safe, SafePage, SafeDisk, SafeBox, Harmless, Kept, safe-not-free, safe-updated, safe-page, stores-safe}
@@ -36,10 +36,10 @@ use Rattle.machine.proofs.SafeLaw.{Watch, Safe, SafePage, SafeDisk, Saf
 module _ {γ : Geometry} (σ : Proper γ) where
   -- ---- the last time is set
 
-  pub timed-kept : (w : Watch) (k : Kind) (s : Box) (c : Command) → Passed γ k s c → Kept γ w s → Kept γ w (timed γ s (c .now))
+  pub timed-kept : (w : Watch) (s : Box) (now : ℕ) → Timely γ s now → Kept γ w s → Kept γ w (timed γ s now)
   unfolding timed
-  timed-kept w k s c q h =
-      let r = timed-reads σ k s c q in
+  timed-kept w s now q h =
+      let r = timed-reads σ s now q in
       record {
         begun = omega (arith, r .time, h .begun, q .later);
         safe =

@@ -23,12 +23,19 @@ use Rattle.validity.proofs.ValidLaw.{Valid, facts, valid-time}
 use Rattle.machine.specs.declared.Kind.{Kind}
 use Rattle.machine.specs.declared.Kind.the-variants.{Change, NewSalt}
 use Rattle.machine.specs.Command.{Box, Command, kindOf, proofSize, broughtEntry, answerSize}
-use Rattle.machine.specs.Question.{question5, contentLength, proofLength, questionsTo, refusal, HasYes, AllYes}
+use Rattle.machine.specs.Question.{question1, question2, question4, question5, contentLength, proofLength, questionsTo, refusal, HasYes, AllYes}
 use Rattle.machine.specs.Step.{timed}
 use Rattle.machine.proofs.QuestionLaw.{all-yes}
 
 -- γ is the box's geometry
 module _ (γ : Geometry) where
+  -- what questions 1, 2 and 4 see to, for a command or a query timed now
+  pub record Timely (s : Box) (now : ℕ) : Type 0 where
+    pub memory : Valid γ (s .memory)
+    pub disk : length (s .disk) ≡ diskSize γ (groups γ (s .memory))
+    pub later : lastTime γ (s .memory) ≤ now
+    pub early : now ≤ latestTime
+
   -- what is known where a command of kind k is carried out in box s, whose last time may have been set to now already
   pub record Passed (k : Kind) (s : Box) (c : Command) : Type 0 where
     pub memory : Valid γ (s .memory)
@@ -56,20 +63,30 @@ module _ {γ : Geometry} (σ : Proper γ) where
 
   -- ---- from the questions
 
+  pub timely : (s : Box) (now : ℕ) → HasYes (question1 γ (s .memory)) → HasYes (question2 γ (s .memory) (s .disk))
+      → HasYes (question4 γ (s .memory) now) → Timely γ s now
+  timely s now valid sized times =
+      let last = leb (lastTime γ (s .memory)) now in
+      let latest = leb now latestTime in
+      record {
+        memory = facts σ (s .memory) valid;
+        disk = eqb-true (length (s .disk)) (diskSize γ (groups γ (s .memory))) sized;
+        later = leb-true (lastTime γ (s .memory)) now (and-elim-left last latest times);
+        early = leb-true now latestTime (and-elim-right last latest times);
+      }
+
   pub passed : (k : Kind) (s : Box) (c : Command) → AllYes (questionsTo γ k s c) → Passed γ k s c
   passed k s c h =
-      let times = h .1 .1 .1 .0 in
-      let last = leb (lastTime γ (s .memory)) (c .now) in
-      let latest = leb (c .now) latestTime in
+      let known = timely s (c .now) (h .0) (h .1 .0) (h .1 .1 .1 .0) in
       let lengths = h .1 .1 .1 .1 .1 .0 in
       let content = eqb (length (c .content)) (contentLength γ k) in
       let proof = eqb (length (c .proof)) (proofLength γ k) in
       let answer = eqb (length (c .answer)) (answerSize γ) in
       record {
-        memory = facts σ (s .memory) (h .0);
-        disk = eqb-true (length (s .disk)) (diskSize γ (groups γ (s .memory))) (h .1 .0);
-        later = leb-true (lastTime γ (s .memory)) (c .now) (and-elim-left last latest times);
-        early = leb-true (c .now) latestTime (and-elim-right last latest times);
+        memory = known .memory;
+        disk = known .disk;
+        later = known .later;
+        early = known .early;
         range = h .1 .1 .1 .1 .0;
         content = eqb-true (length (c .content)) (contentLength γ k) (and-elim-left content (proof && answer) lengths);
         proof = eqb-true (length (c .proof)) (proofLength γ k) (and-elim-left proof answer (and-elim-right content (proof && answer) lengths));
@@ -96,21 +113,35 @@ module _ {γ : Geometry} (σ : Proper γ) where
 
   -- ---- once the last time is set
 
-  pub timed-reads : (k : Kind) (s : Box) (c : Command) → Passed γ k s c
-      → Reads γ (timed γ s (c .now) .memory) (salt (s .memory)) (count (s .memory)) (c .now) (groups γ (s .memory)) (held γ (s .memory))
-      (heldPage γ (s .memory))
-  unfolding timed
-  timed-reads k s c h = time-set σ (s .memory) (h .memory .size) (c .now) (omega (arith, h .early))
+  pub in-time : (k : Kind) (s : Box) (c : Command) → Passed γ k s c → Timely γ s (c .now)
+  in-time k s c h = record { memory = h .memory; disk = h .disk; later = h .later; early = h .early }
 
-  pub passed-timed : (k : Kind) (s : Box) (c : Command) → Passed γ k s c → Passed γ k (timed γ s (c .now)) c
+  pub timed-reads : (s : Box) (now : ℕ) → Timely γ s now
+      → Reads γ (timed γ s now .memory) (salt (s .memory)) (count (s .memory)) now (groups γ (s .memory)) (held γ (s .memory)) (heldPage γ (s .memory))
   unfolding timed
-  passed-timed k s c h =
-      let r = timed-reads k s c h in
+  timed-reads s now h = time-set σ (s .memory) (h .memory .size) now (omega (arith, h .early))
+
+  pub timely-timed : (s : Box) (now : ℕ) → Timely γ s now → Timely γ (timed γ s now) now
+  unfolding timed
+  timely-timed s now h =
+      let r = timed-reads s now h in
       record {
-        memory = facts σ (withLastTime γ (s .memory) (c .now)) (valid-time σ (s .memory) (h .memory) (c .now) (h .early));
+        memory = facts σ (withLastTime γ (s .memory) now) (valid-time σ (s .memory) (h .memory) now (h .early));
         disk = h .disk ∙ ap (diskSize γ) (sym (r .groups));
         later = omega (arith, r .time);
         early = h .early;
+      }
+
+  pub passed-timed : (k : Kind) (s : Box) (c : Command) → Passed γ k s c → Passed γ k (timed γ s (c .now)) c
+  passed-timed k s c h =
+      let before = in-time k s c h in
+      let after = timely-timed s (c .now) before in
+      let r = timed-reads s (c .now) before in
+      record {
+        memory = after .memory;
+        disk = after .disk;
+        later = after .later;
+        early = after .early;
         range = subst (λ (g : ℕ). HasYes (question5 γ k g (c .block))) (sym (r .groups)) (h .range);
         content = h .content;
         proof = h .proof;
@@ -119,7 +150,7 @@ module _ {γ : Geometry} (σ : Proper γ) where
 
   pub changes-timed : (u : Update) (s : Box) (c : Command) → Passed γ (Change u) s c → Changes γ u s c → Changes γ u (timed γ s (c .now)) c
   changes-timed u s c h q =
-      let r = timed-reads (Change u) s c h in
+      let r = timed-reads s (c .now) (in-time (Change u) s c h) in
       let counted : count (timed γ s (c .now) .memory) (groupOf γ (c .block)) ≡ count (s .memory) (groupOf γ (c .block)) =
       r .count (groupOf γ (c .block)) (omega (arith, changed-group u s c q, h .memory .most)) in
       record {

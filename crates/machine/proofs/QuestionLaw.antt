@@ -21,7 +21,7 @@ use Rattle.machine.specs.Command.{Box, Command, kindOf, broughtPage, bro
 use Rattle.machine.specs.Tag.{tag}
 use Rattle.machine.specs.Question.{Question, Put, NotPut, question1, question2, question3, question4, question5, question6, question7, question8}
 use Rattle.machine.specs.Question.{question9, question10, question11, questions, questionsTo, firstNo, passes, refusal, AllYes, GetsYes}
-use Rattle.machine.specs.Claims.{IsFirstNo}
+use Rattle.machine.specs.Claims.{IsFirstNo, Passes, AnswersFirstNo}
 
 -- ---- any list of questions
 
@@ -80,6 +80,17 @@ passes-on (Put k false ∷ qs) later h = absurd (false≢true (h .0))
 pub first-no-only : (n : ℕ) (qs : List Question) → IsFirstNo n qs → firstNo qs ≡ n
 unfolding firstNo
 first-no-only n qs f = ap firstNo (f .split) ∙ passes-on (f .earlier) (Put n false ∷ f .later) (f .before)
+
+-- so the number answered, where it is that of the first no
+pub passes-if : (k n : ℕ) (qs : List Question) → numberedTo k qs ≡ true → n ≡ firstNo qs → Passes n qs
+passes-if k n qs h e = record { passes = λ y. e ∙ yes-accepted qs y; only = λ a. accepted-yes k qs h (sym e ∙ a) }
+
+pub answers-first-no : (n : ℕ) (qs : List Question) → n ≡ firstNo qs → AnswersFirstNo n qs
+answers-first-no n qs e =
+    record {
+      first = λ f. subst (λ (k : ℕ). IsFirstNo k qs) (sym e) (first-no qs (λ z. f (e ∙ z)));
+      only = λ k f. e ∙ first-no-only k qs f;
+    }
 
 yes-front : (qs later : List Question) → AllYes (qs ++ later) → AllYes qs
 yes-front [] later h = tt

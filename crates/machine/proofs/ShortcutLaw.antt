@@ -31,7 +31,8 @@ use Rattle.machine.specs.Tag.{tag, currentPage}
 use Rattle.machine.specs.Question.{questionsTo, refusal, AllYes}
 use Rattle.machine.specs.Effect.{updatedPage, changedPage}
 use Rattle.machine.specs.Step.{step}
-use Rattle.machine.specs.Run.{Event, Given, after, run, Throughout}
+use Rattle.machine.specs.Query.{Query, queryRefusal, queryStep}
+use Rattle.machine.specs.Run.{Event, Given, Queried, after, run, Throughout}
 use Rattle.machine.specs.Claims.{RefusedBy, ValidBox}
 use Rattle.machine.specs.After.{countAfter}
 use Rattle.machine.specs.Shortcuts.{SaltStays, TagsDiffer, NotFreeBeforeExpiry, OldPageRefused, LostPageRefused, OnNoPage, SecondUnfreezeRefused}
@@ -40,9 +41,11 @@ use Rattle.machine.proofs.KindLaw.{new-salt-number, write-kind, unfreez
 use Rattle.machine.proofs.QuestionLaw.{all-seven, all-yes, refused-by-seventh, refused-by-ninth, got-seventh, nine-seven, seventh-yes, ninth-yes}
 use Rattle.machine.proofs.StepLaw.{step-number, accepts, refused-by, accepted-or-same}
 use Rattle.machine.proofs.TagLaw.{tagged-page, tagged-tag, brought-length, brought-are, message-same}
-use Rattle.machine.proofs.PassedLaw.{passed, changes, changed-group}
+use Rattle.machine.proofs.PassedLaw.{passed, changes, changed-group, timed-reads}
+use Rattle.machine.proofs.QueryLaw.{query-passed, query-times, query-or-same, query-valid}
 use Rattle.machine.proofs.EffectLaw.{changed-length, count-changed, count-unchanged}
 use Rattle.machine.proofs.ValidBoxLaw.{accepted-valid}
+use Rattle.machine.proofs.TimedLaw.{in-memory}
 use Rattle.machine.proofs.AnswerLaw.{changed-answer}
 use Rattle.machine.proofs.AfterLaw.{accepted-after, own-page, own-count, own-held, lost-count}
 
@@ -165,11 +168,26 @@ module _ {γ : Geometry} (σ : Proper γ) where
         small = subst (λ (i : ℕ). i < 256 ^ countSize) (sym same) (rises .1);
       }
 
+  counted-query : (g n : ℕ) (t : Box) (q : Query) → Counted γ g n t → queryRefusal γ t q ≡ 0 → Counted γ g n (queryStep γ t q .box)
+  counted-query g n t q h r =
+      let reads = timed-reads σ t (q .now) (query-passed σ t q r .timely) in
+      let same = reads .count g (in-memory σ (t .memory) (facts σ (t .memory) (h .valid .memory)) g (h .of-box)) in
+      subst (Counted γ g n) (sym (query-times σ t q r))
+      (record {
+        valid = subst (ValidBox γ) (query-times σ t q r) (query-valid σ t q r);
+        of-box = subst (λ (i : ℕ). g < i) (sym (reads .groups)) (h .of-box);
+        more = omega (arith, same, h .more);
+        small = subst (λ (i : ℕ). i < 256 ^ countSize) (sym same) (h .small);
+      })
+
   counted-run : (g n : ℕ) (t : Box) (es : List Event) → Throughout γ (SaltStays γ) t es → Counted γ g n t → Counted γ g n (run γ t es)
   counted-run g n t [] stays h = h
   counted-run g n t (Given c ∷ es) stays h =
       counted-run g n (after γ t (Given c)) es (stays .1)
       (⊎-elim (λ r. counted-after g n t c (stays .0) h r) (λ e. subst (Counted γ g n) (sym e) h) (accepted-or-same σ t c))
+  counted-run g n t (Queried q ∷ es) stays h =
+      counted-run g n (after γ t (Queried q)) es (stays .1)
+      (⊎-elim (λ r. counted-query g n t q h r) (λ e. subst (Counted γ g n) (sym e) h) (query-or-same σ t q))
 
   -- ---- the old page and the lost page
 

@@ -1,6 +1,6 @@
 -- Laws of a step: it is the effect where no question refuses it, and changes nothing where one does; and of the padded answer. Assumes
 -- nothing.
-use mathlib.Core.Path.{_≡_, refl, ap, sym, _∙_}
+use mathlib.Core.Path.{_≡_, refl, ap, sym, subst, _∙_}
 use mathlib.Core.Logic.{_⊎_, inl, inr}
 use mathlib.Core.List.{List, _++_, append-nil}
 use Prim.Native.Nat.{ℕ, _-_, _≤_}
@@ -17,8 +17,22 @@ use Rattle.machine.specs.Command.{Box, Command, Outcome, outcomeOf, kind
 use Rattle.machine.specs.Question.{refusal}
 use Rattle.machine.specs.Effect.{Effect, stored, effect}
 use Rattle.machine.specs.Step.{padded, timed, done, refused, step, Accepted}
-use Rattle.machine.specs.Claims.{RefusedBy, Unaltered}
+use Rattle.machine.specs.Claims.{ByteBox, Unaltered, Stored, SameLengths, RefusedBy}
 use Rattle.machine.proofs.CaseLaw.{same-or-not}
+
+-- ---- what is unaltered
+
+pub unaltered-bytes : (s t : Box) (old new : List ℕ) → Unaltered s t old new → ByteBox s → AreBytes old → Stored t new
+unaltered-bytes s t old new h b a =
+    record { box = subst ByteBox (sym (h .box)) b; answer = subst (λ (l : List ℕ). AreBytes l) (sym (h .answer)) a }
+
+pub unaltered-lengths : (s t : Box) (old new : List ℕ) → Unaltered s t old new → SameLengths s t old new
+unaltered-lengths s t old new h =
+    record {
+      memory = ap (λ (x : Box). length (x .memory)) (h .box);
+      disk = ap (λ (x : Box). length (x .disk)) (h .box);
+      answer = ap (λ (l : List ℕ). length l) (h .answer);
+    }
 
 -- γ is any proper geometry
 module _ {γ : Geometry} (σ : Proper γ) where
@@ -47,7 +61,7 @@ module _ {γ : Geometry} (σ : Proper γ) where
   pub refused-by : (n : ℕ) (s : Box) (c : Command) → (1 ≤ refusal γ s c) × (refusal γ s c ≤ n) → RefusedBy γ n s c
   refused-by n s c h = (omega (arith, h .0, step-number s c), omega (arith, h .1, step-number s c))
 
-  pub refused-unaltered : (s : Box) (c : Command) → (refusal γ s c ≡ 0 → ⊥) → Unaltered γ s c
+  pub refused-unaltered : (s : Box) (c : Command) → (refusal γ s c ≡ 0 → ⊥) → Unaltered s (step γ s c .box) (c .answer) (step γ s c .answer)
   unfolding refused
   refused-unaltered s c r =
       record {

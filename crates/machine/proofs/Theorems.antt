@@ -1,11 +1,8 @@
 -- The claims of specs/ hold. Assumes nothing.
-use mathlib.Core.Path.{_≡_, refl, ap, sym, subst, _∙_}
-use mathlib.Core.List.{List}
-use Prim.Native.Nat.{ℕ}
+use mathlib.Core.Path.{_≡_, refl, ap, sym, _∙_}
 use native.Mathlib.Omega.{arith}
 use borrow.Author.Tests.{eqb-true}
 use lib.ListN.{length}
-use Rattle.octets.specs.Part.{AreBytes}
 use Rattle.lockpage.specs.Geometry.{Geometry, Proper, base, present}
 use Rattle.lockpage.specs.Entry.{timeOfWrite}
 use Rattle.lockpage.specs.Page.{entryAt}
@@ -16,8 +13,8 @@ use Rattle.validity.proofs.ValidLaw.{facts}
 use Rattle.machine.specs.Command.{Box, Command, kindOf}
 use Rattle.machine.specs.Question.{refusal, questions}
 use Rattle.machine.specs.Step.{step, padded}
-use Rattle.machine.specs.Claims.{PapersBufferSizes, IsFirstNo, PassesIfAllYes, KindsAreOneToTen, NumberIsFirstNo, RefusalAltersNothing}
-use Rattle.machine.specs.Claims.{AcceptedLeavesValid, StaysValid, InvalidRefuses, ByteBox, StepKeepsBytes, SameLengths, StepKeepsLengths}
+use Rattle.machine.specs.Claims.{PapersBufferSizes, PassesIfAllYes, KindsAreOneToTen, NumberIsFirstNo, RefusalAltersNothing}
+use Rattle.machine.specs.Claims.{AcceptedLeavesValid, StaysValid, InvalidRefuses, StepKeepsBytes, SameLengths, StepKeepsLengths}
 use Rattle.machine.specs.Claims.{FormattingFormats}
 use Rattle.machine.specs.After.{AcceptedDoes, NewSaltDiffers, HeldPageFirst, AnswersServe}
 use Rattle.machine.specs.Protection.{startContent, startEntry, Demand3, ReadsAlike, EntriesAlike}
@@ -26,8 +23,8 @@ use Rattle.machine.specs.EdgeValues.{EdgeValues}
 use Rattle.machine.specs.Example.{PremisesMet}
 use Rattle.machine.proofs.CaseLaw.{same-or-not}
 use Rattle.machine.proofs.KindLaw.{one-to-ten, new-salt-kind}
-use Rattle.machine.proofs.QuestionLaw.{refused-by-second, yes-accepted, all-yes, first-no, first-no-only}
-use Rattle.machine.proofs.StepLaw.{refused-by, step-number, accepts, refused-unaltered}
+use Rattle.machine.proofs.QuestionLaw.{passes-if, answers-first-no, refused-by-second, all-numbered, all-yes}
+use Rattle.machine.proofs.StepLaw.{unaltered-bytes, unaltered-lengths, refused-by, step-number, accepts, refused-unaltered}
 use Rattle.machine.proofs.TagLaw.{message-length}
 use Rattle.machine.proofs.PassedLaw.{passed}
 use Rattle.machine.proofs.EffectLaw.{held-first}
@@ -52,11 +49,7 @@ papers-buffer-sizes =
 module _ {γ : Geometry} (σ : Proper γ) where
   pub passes-if-all-yes : PassesIfAllYes γ
   unfolding PassesIfAllYes refusal questions
-  passes-if-all-yes s c =
-      record {
-        passes = λ h. step-number σ s c ∙ yes-accepted (questions γ s c) h;
-        only = λ a. all-yes σ (kindOf c) s c refl (accepts σ s c a);
-      }
+  passes-if-all-yes s c = passes-if 11 (step γ s c .number) (questions γ s c) (all-numbered σ (kindOf c) s c) (step-number σ s c)
 
   pub kinds-are-one-to-ten : KindsAreOneToTen γ
   unfolding KindsAreOneToTen
@@ -64,14 +57,7 @@ module _ {γ : Geometry} (σ : Proper γ) where
 
   pub number-is-first-no : NumberIsFirstNo γ
   unfolding NumberIsFirstNo refusal
-  number-is-first-no s c =
-      record {
-        first =
-            λ n.
-            subst (λ (k : ℕ). IsFirstNo k (questions γ s c)) (sym (step-number σ s c))
-            (first-no (questions γ s c) (λ e. n (step-number σ s c ∙ e)));
-        only = λ n f. step-number σ s c ∙ first-no-only n (questions γ s c) f;
-      }
+  number-is-first-no s c = answers-first-no (step γ s c .number) (questions γ s c) (step-number σ s c)
 
   pub refusal-alters-nothing : RefusalAltersNothing γ
   unfolding RefusalAltersNothing
@@ -97,12 +83,10 @@ module _ {γ : Geometry} (σ : Proper γ) where
   unfolding StepKeepsBytes
   step-keeps-bytes s c b d =
       same-or-not (refusal γ s c) 0 (λ r. accepted-bytes σ s c r b d)
-      (λ n.
-      let same = refused-unaltered σ s c n in
-      record { box = subst ByteBox (sym (same .box)) b; answer = subst (λ (l : List ℕ). AreBytes l) (sym (same .answer)) (d .answer) })
+      (λ n. unaltered-bytes s (step γ s c .box) (c .answer) (step γ s c .answer) (refused-unaltered σ s c n) b (d .answer))
 
   -- the lengths that the questions ask for are those after
-  accepted-lengths : (s : Box) (c : Command) → refusal γ s c ≡ 0 → SameLengths γ s c
+  accepted-lengths : (s : Box) (c : Command) → refusal γ s c ≡ 0 → SameLengths s (step γ s c .box) (c .answer) (step γ s c .answer)
   accepted-lengths s c r =
       let q = passed σ (kindOf c) s c (all-yes σ (kindOf c) s c refl r) in
       let v = accepted-valid σ s c r in
@@ -116,13 +100,7 @@ module _ {γ : Geometry} (σ : Proper γ) where
   unfolding StepKeepsLengths
   step-keeps-lengths s c =
       same-or-not (refusal γ s c) 0 (accepted-lengths s c)
-      (λ n.
-      let same = refused-unaltered σ s c n in
-      record {
-        memory = ap (λ (t : Box). length (t .memory)) (same .box);
-        disk = ap (λ (t : Box). length (t .disk)) (same .box);
-        answer = ap (λ (l : List ℕ). length l) (same .answer);
-      })
+      (λ n. unaltered-lengths s (step γ s c .box) (c .answer) (step γ s c .answer) (refused-unaltered σ s c n))
 
   pub formatting-formats : FormattingFormats γ
   unfolding FormattingFormats

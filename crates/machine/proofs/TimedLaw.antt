@@ -22,7 +22,7 @@ use Rattle.machine.specs.Step.{timed}
 use Rattle.machine.specs.After.{saltAfter, countAfter, heldAfter, pageAfter}
 use Rattle.machine.proofs.CaseLaw.{same-or-not}
 use Rattle.machine.proofs.TagLaw.{current-same}
-use Rattle.machine.proofs.PassedLaw.{Passed, timed-reads}
+use Rattle.machine.proofs.PassedLaw.{Timely, Passed, in-time, timed-reads}
 use Rattle.machine.proofs.EffectLaw.{count-unchanged}
 use Rattle.machine.proofs.ChangeLaw.{not-none}
 
@@ -36,24 +36,25 @@ module _ {γ : Geometry} (σ : Proper γ) where
   pub in-memory : (m : List ℕ) → Valid γ m → (g : ℕ) → g < groups γ m → g < γ .mostGroups
   in-memory m v g h = omega (arith, v .most)
 
-  pub current-timed : (k : Kind) (s : Box) (c : Command) → Passed γ k s c → (g : ℕ) → currentPage γ (timed γ s (c .now)) g ≡ currentPage γ s g
+  pub current-timed : (s : Box) (now : ℕ) → Timely γ s now → (g : ℕ) → currentPage γ (timed γ s now) g ≡ currentPage γ s g
   unfolding timed
-  current-timed k s c q g =
-      let r = timed-reads σ k s c q in
-      current-same σ s (timed γ s (c .now)) g (r .held) (r .page) refl
+  current-timed s now q g =
+      let r = timed-reads σ s now q in
+      current-same σ s (timed γ s now) g (r .held) (r .page) refl
 
   pub page-timed : (k : Kind) (s : Box) (c : Command) → Passed γ k s c → (g : ℕ) → pageAfter γ k (timed γ s (c .now)) c g ≡ pageAfter γ k s c g
   unfolding timed
-  page-timed Read s c q g = current-timed Read s c q g
-  page-timed Entry s c q g = current-timed Entry s c q g
-  page-timed Page s c q g = current-timed Page s c q g
+  page-timed Read s c q g = current-timed s (c .now) (in-time σ Read s c q) g
+  page-timed Entry s c q g = current-timed s (c .now) (in-time σ Entry s c q) g
+  page-timed Page s c q g = current-timed s (c .now) (in-time σ Page s c q) g
   page-timed (Change u) s c q g =
-      ap (λ (p : List ℕ). elim (eqb (groupOf γ (c .block)) g) [ true ↦ changedPage γ u c | false ↦ p ]) (current-timed (Change u) s c q g)
-  page-timed Sync s c q g = current-timed Sync s c q g
+      ap (λ (p : List ℕ). elim (eqb (groupOf γ (c .block)) g) [ true ↦ changedPage γ u c | false ↦ p ])
+      (current-timed s (c .now) (in-time σ (Change u) s c q) g)
+  page-timed Sync s c q g = current-timed s (c .now) (in-time σ Sync s c q) g
   page-timed Restart s c q g = refl
-  page-timed NewSalt s c q g = current-timed NewSalt s c q g
-  page-timed Identify s c q g = current-timed Identify s c q g
-  page-timed Unknown s c q g = current-timed Unknown s c q g
+  page-timed NewSalt s c q g = current-timed s (c .now) (in-time σ NewSalt s c q) g
+  page-timed Identify s c q g = current-timed s (c .now) (in-time σ Identify s c q) g
+  page-timed Unknown s c q g = current-timed s (c .now) (in-time σ Unknown s c q) g
 
   module _ (k : Kind) (s : Box) (c : Command) (q : Passed γ k s c) where
     tm : List ℕ
@@ -61,11 +62,11 @@ module _ {γ : Geometry} (σ : Proper γ) where
 
     count-set-time : (g : ℕ) → g < groups γ (s .memory) → count tm g ≡ count (s .memory) g
     unfolding tm
-    count-set-time g h = timed-reads σ k s c q .count g (in-memory (s .memory) (q .memory) g h)
+    count-set-time g h = timed-reads σ s (c .now) (in-time σ k s c q) .count g (in-memory (s .memory) (q .memory) g h)
 
     held-set-time : held γ tm ≡ held γ (s .memory)
     unfolding tm
-    held-set-time = timed-reads σ k s c q .held
+    held-set-time = timed-reads σ s (c .now) (in-time σ k s c q) .held
 
     restart-set-time : (g : ℕ) → g < groups γ (s .memory) → countAfter γ Restart tm c g ≡ countAfter γ Restart (s .memory) c g
     restart-set-time g h =
@@ -80,15 +81,15 @@ module _ {γ : Geometry} (σ : Proper γ) where
         (λ n. raised-same (count tm) (count m) (held γ m) g (count-set-time (held γ m) (q .memory .group n)) (count-set-time g h))
 
   pub salt-timed : (k : Kind) (s : Box) (c : Command) → Passed γ k s c → saltAfter k (timed γ s (c .now) .memory) c ≡ saltAfter k (s .memory) c
-  salt-timed Read s c q = timed-reads σ Read s c q .salt
-  salt-timed Entry s c q = timed-reads σ Entry s c q .salt
-  salt-timed Page s c q = timed-reads σ Page s c q .salt
-  salt-timed (Change u) s c q = timed-reads σ (Change u) s c q .salt
-  salt-timed Sync s c q = timed-reads σ Sync s c q .salt
-  salt-timed Restart s c q = timed-reads σ Restart s c q .salt
+  salt-timed Read s c q = timed-reads σ s (c .now) (in-time σ Read s c q) .salt
+  salt-timed Entry s c q = timed-reads σ s (c .now) (in-time σ Entry s c q) .salt
+  salt-timed Page s c q = timed-reads σ s (c .now) (in-time σ Page s c q) .salt
+  salt-timed (Change u) s c q = timed-reads σ s (c .now) (in-time σ (Change u) s c q) .salt
+  salt-timed Sync s c q = timed-reads σ s (c .now) (in-time σ Sync s c q) .salt
+  salt-timed Restart s c q = timed-reads σ s (c .now) (in-time σ Restart s c q) .salt
   salt-timed NewSalt s c q = refl
-  salt-timed Identify s c q = timed-reads σ Identify s c q .salt
-  salt-timed Unknown s c q = timed-reads σ Unknown s c q .salt
+  salt-timed Identify s c q = timed-reads σ s (c .now) (in-time σ Identify s c q) .salt
+  salt-timed Unknown s c q = timed-reads σ s (c .now) (in-time σ Unknown s c q) .salt
 
   pub counts-timed : (k : Kind) (s : Box) (c : Command) → Passed γ k s c → ((u : Update) → k ≡ Change u → groupOf γ (c .block) < groups γ (s .memory))
       → (g : ℕ) → g < groups γ (s .memory) → countAfter γ k (timed γ s (c .now) .memory) c g ≡ countAfter γ k (s .memory) c g

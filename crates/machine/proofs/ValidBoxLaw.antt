@@ -22,12 +22,13 @@ use Rattle.machine.specs.Question.{refusal}
 use Rattle.machine.specs.Effect.{Store, stored, effect, read, showEntry, showPage, putHeld, evict, putContent, changedPage, changedMemory, change, sync}
 use Rattle.machine.specs.Effect.{restartedMemory, restart, salted, newSalt, identify}
 use Rattle.machine.specs.Step.{step, timed, done}
-use Rattle.machine.specs.Run.{Event, Given, after, run}
+use Rattle.machine.specs.Run.{Event, Given, Queried, after, run}
 use Rattle.machine.specs.Claims.{ValidBox}
 use Rattle.machine.proofs.CaseLaw.{same-or-not}
 use Rattle.machine.proofs.QuestionLaw.{all-yes}
 use Rattle.machine.proofs.StepLaw.{step-accepted, accepted-or-same}
 use Rattle.machine.proofs.PassedLaw.{Passed, Changes, passed, passed-timed, changed-group, accepted-changes}
+use Rattle.machine.proofs.QueryLaw.{query-valid, query-or-same}
 use Rattle.machine.proofs.EffectLaw.{left, EachStore, Whole, each-append, each-evicted, put-whole, content-whole, stored-length, changed-length}
 use Rattle.machine.proofs.EffectLaw.{count-changed, changed-reads, restarted-none, restarted-held, restarted-groups, salted-reads}
 
@@ -125,3 +126,6 @@ module _ {γ : Geometry} (σ : Proper γ) where
   run-valid s (Given c ∷ es) h =
       run-valid (after γ s (Given c)) es
       (⊎-elim (λ r. accepted-valid s c r) (λ e. subst (ValidBox γ) (sym e) h) (accepted-or-same σ s c))
+  run-valid s (Queried q ∷ es) h =
+      run-valid (after γ s (Queried q)) es
+      (⊎-elim (λ r. query-valid σ s q r) (λ e. subst (ValidBox γ) (sym e) h) (query-or-same σ s q))

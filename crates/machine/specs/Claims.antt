@@ -41,6 +41,20 @@ pub record IsFirstNo (n : ℕ) (qs : List Question) : Type 0 where
   pub split : qs ≡ earlier ++ (Put n false ∷ later)
   pub before : AllYes earlier
 
+-- n is the number answered where the questions qs are put. "A command passes if and only if each question put to it there has yes."
+pub record Passes (n : ℕ) (qs : List Question) : Type 0 where
+  pub passes : AllYes qs → n ≡ 0
+  pub only : n ≡ 0 → AllYes qs
+
+-- a number other than 0 is that of the first no, and the first no has that number
+pub record AnswersFirstNo (n : ℕ) (qs : List Question) : Type 0 where
+  pub first : (n ≡ 0 → ⊥) → IsFirstNo n qs
+  pub only : (k : ℕ) → IsFirstNo k qs → n ≡ k
+
+-- the number is a refusal's, by question k at the latest
+abbrev pub RefusesBy : ℕ → ℕ → Type 0
+RefusesBy k n = (1 ≤ n) × (n ≤ k)
+
 pub record ByteBox (s : Box) : Type 0 where
   pub memory : AreBytes (s .memory)
   pub disk : AreBytes (s .disk)
@@ -50,20 +64,31 @@ pub record ByteCommand (c : Command) : Type 0 where
   pub proof : AreBytes (c .proof)
   pub answer : AreBytes (c .answer)
 
+-- ---- box s and an answer buffer as they were, box t and the buffer as they are left
+
+pub record Unaltered (s t : Box) (old new : List ℕ) : Type 0 where
+  pub box : t ≡ s
+  pub answer : new ≡ old
+
+pub record Stored (t : Box) (new : List ℕ) : Type 0 where
+  pub box : ByteBox t
+  pub answer : AreBytes new
+
+pub record SameLengths (s t : Box) (old new : List ℕ) : Type 0 where
+  pub memory : length (t .memory) ≡ length (s .memory)
+  pub disk : length (t .disk) ≡ length (s .disk)
+  pub answer : length new ≡ length old
+
 -- γ is the box's geometry; the numbers quoted are those at base
 module _ (γ : Geometry) where
   -- the command is refused, by question n at the latest
   abbrev pub RefusedBy : ℕ → Box → Command → Type 0
-  RefusedBy n s c = (1 ≤ step γ s c .number) × (step γ s c .number ≤ n)
+  RefusedBy n s c = RefusesBy n (step γ s c .number)
 
-  -- ---- demand 2: "A command passes if and only if each question put to it there has yes."
-
-  pub record Passes (s : Box) (c : Command) : Type 0 where
-    pub passes : AllYes (questions γ s c) → Accepted γ s c
-    pub only : Accepted γ s c → AllYes (questions γ s c)
+  -- ---- demand 2
 
   unfoldable pub PassesIfAllYes : Type 0
-  PassesIfAllYes = (s : Box) (c : Command) → Passes s c
+  PassesIfAllYes = (s : Box) (c : Command) → Passes (step γ s c .number) (questions γ s c)
 
   -- "Is the kind 1 to 10?": question 3 has yes for these numbers and no other
   pub record OneToTen (c : Command) : Type 0 where
@@ -73,21 +98,13 @@ module _ (γ : Geometry) where
   unfoldable pub KindsAreOneToTen : Type 0
   KindsAreOneToTen = (c : Command) → OneToTen c
 
-  pub record Numbered (s : Box) (c : Command) : Type 0 where
-    pub first : (Accepted γ s c → ⊥) → IsFirstNo (step γ s c .number) (questions γ s c)
-    pub only : (n : ℕ) → IsFirstNo n (questions γ s c) → step γ s c .number ≡ n
-
   unfoldable pub NumberIsFirstNo : Type 0
-  NumberIsFirstNo = (s : Box) (c : Command) → Numbered s c
+  NumberIsFirstNo = (s : Box) (c : Command) → AnswersFirstNo (step γ s c .number) (questions γ s c)
 
   -- ---- demand 1: "a refusal alters no byte of memory, disk or answer"
 
-  pub record Unaltered (s : Box) (c : Command) : Type 0 where
-    pub box : step γ s c .box ≡ s
-    pub answer : step γ s c .answer ≡ c .answer
-
   unfoldable pub RefusalAltersNothing : Type 0
-  RefusalAltersNothing = (s : Box) (c : Command) → (Accepted γ s c → ⊥) → Unaltered s c
+  RefusalAltersNothing = (s : Box) (c : Command) → (Accepted γ s c → ⊥) → Unaltered s (step γ s c .box) (c .answer) (step γ s c .answer)
 
   -- ---- a box once valid stays valid: questions 1 and 2 have yes
 
@@ -107,20 +124,11 @@ module _ (γ : Geometry) where
 
   -- ---- bytes stay bytes, and a buffer keeps its length
 
-  pub record Stored (s : Box) (c : Command) : Type 0 where
-    pub box : ByteBox (step γ s c .box)
-    pub answer : AreBytes (step γ s c .answer)
-
   unfoldable pub StepKeepsBytes : Type 0
-  StepKeepsBytes = (s : Box) (c : Command) → ByteBox s → ByteCommand c → Stored s c
-
-  pub record SameLengths (s : Box) (c : Command) : Type 0 where
-    pub memory : length (step γ s c .box .memory) ≡ length (s .memory)
-    pub disk : length (step γ s c .box .disk) ≡ length (s .disk)
-    pub answer : length (step γ s c .answer) ≡ length (c .answer)
+  StepKeepsBytes = (s : Box) (c : Command) → ByteBox s → ByteCommand c → Stored (step γ s c .box) (step γ s c .answer)
 
   unfoldable pub StepKeepsLengths : Type 0
-  StepKeepsLengths = (s : Box) (c : Command) → SameLengths s c
+  StepKeepsLengths = (s : Box) (c : Command) → SameLengths s (step γ s c .box) (c .answer) (step γ s c .answer)
 
   -- ---- formatting
 

@@ -19,7 +19,7 @@ use Rattle.memory.specs.Memory.{count, groups, held, none, heldPage, withSalt, 
 use Rattle.machine.specs.declared.Kind.{Kind}
 use Rattle.machine.specs.declared.Kind.the-variants.{Read, Entry, Page, Change, Sync, Restart, NewSalt, Identify, Unknown}
 use Rattle.machine.specs.Command.{Box, Command, broughtPage}
-use Rattle.machine.specs.Tag.{tagged, currentPage}
+use Rattle.machine.specs.Tag.{tagged, currentPage, currentEntry}
 
 -- a block store: a physical block and what it gets
 pub record Store : Type 0 where
@@ -64,7 +64,7 @@ module _ (γ : Geometry) where
   read s a = effectOf [] (s .memory) (block γ (s .disk) (physical γ a))
 
   unfoldable pub showEntry : Box → ℕ → ℕ → Effect
-  showEntry s a now = effectOf [] (s .memory) (entryAnswer now (entryAt (currentPage γ s (groupOf γ a)) (placeOf γ a)))
+  showEntry s a now = effectOf [] (s .memory) (entryAnswer now (currentEntry γ s a))
 
   -- "block names a group; its current page and tag"
   unfoldable pub showPage : Box → ℕ → Effect

@@ -1,10 +1,10 @@
 -- The premises of demand 3 can be met, by two runs in which it says something. One writes a block and syncs; from there on, which is the
--- start, it unfreezes the block, shows its entry, restarts, reads it back, unfreezes it again and overwrites it. The other shows and
--- reads it from the same start. Each command is accepted, no page is forged, and the block is protected where it is shown and read.
--- The claim is a type; its proof is proofs/Theorems.antt, premises-met.
+-- start, it unfreezes the block, shows its entry, queries its state, restarts, reads it back, unfreezes it again and overwrites it. The
+-- other shows, queries and reads it from the same start. Each event is accepted, no page is forged, and the block is protected where it is
+-- shown, queried and read. The claim is a type; its proof is proofs/Theorems.antt, premises-met.
 use mathlib.Core.Path.{_≡_}
-use mathlib.Core.List.{List, [], _∷_}
-use Prim.Native.Nat.{ℕ}
+use mathlib.Core.List.{List, [], _∷_, _++_}
+use Prim.Native.Nat.{ℕ, _*_}
 use Rattle.octets.specs.Part.{AreBytes, repeated}
 use Rattle.lockpage.specs.Geometry.{base}
 use Rattle.lockpage.specs.Size.{blockSize}
@@ -18,7 +18,8 @@ use Rattle.machine.specs.Command.{Box, Command, boxOf, answerSize}
 use Rattle.machine.specs.Tag.{tagged, currentPage}
 use Rattle.machine.specs.Step.{step, padded, Accepted}
 use Rattle.machine.specs.Format.{format}
-use Rattle.machine.specs.Run.{Event, Given, run, Throughout}
+use Rattle.machine.specs.Query.{Query, queryOf, numbers, shownSize, queryStep, AcceptedQuery}
+use Rattle.machine.specs.Run.{Event, Given, Queried, run, Throughout}
 use Rattle.machine.specs.Protection.{Unforged, startContent, startEntry, Protected, ShownIn}
 
 -- an update of block 0 that brings the current page with its tag
@@ -38,6 +39,10 @@ updating s kind now value content =
 abbrev pub plain : ℕ → ℕ → Command
 plain kind now =
     record { kind = kind; block = 0; now = now; value = 0; content = []; proof = []; answer = repeated (answerSize base) 0 }
+
+-- a query of blocks 0, 1 and 0, each number in 4 bytes
+abbrev pub asking : ℕ → Query
+asking now = queryOf (0 ∷ 0 ∷ 0 ∷ 0 ∷ 1 ∷ 0 ∷ 0 ∷ 0 ∷ 0 ∷ 0 ∷ 0 ∷ 0 ∷ []) now (repeated (shownSize * 3) 0)
 
 -- ---- the start
 
@@ -75,12 +80,19 @@ showing = plain 2 1250
 unfoldable pub shownBox : Box
 shownBox = step base unfrozenBox showing .box
 
+-- its state queried at 1275
+abbrev pub listing : Query
+listing = asking 1275
+
+unfoldable pub listedBox : Box
+listedBox = queryStep base shownBox listing .box
+
 -- a restart at 1300 loses the unfreeze
 abbrev pub restarting : Command
 restarting = plain 8 1300
 
 unfoldable pub restartedBox : Box
-restartedBox = step base shownBox restarting .box
+restartedBox = step base listedBox restarting .box
 
 -- read back at 1350
 abbrev pub readingBack : Command
@@ -104,6 +116,7 @@ abbrev pub events : List Event
 events =
     Given unfreezing
     ∷ Given showing
+    ∷ Queried listing
     ∷ Given restarting
     ∷ Given readingBack
     ∷ Given unfreezingAgain
@@ -119,23 +132,42 @@ showingOther = plain 2 1450
 unfoldable pub otherBox : Box
 otherBox = step base start showingOther .box
 
+-- its state queried at 1475
+abbrev pub listingOther : Query
+listingOther = asking 1475
+
+unfoldable pub otherListedBox : Box
+otherListedBox = queryStep base otherBox listingOther .box
+
 -- and the block read at 1499, in the last second before T + L
 abbrev pub readingOther : Command
 readingOther = plain 1 1499
 
 abbrev pub otherEvents : List Event
-otherEvents = Given showingOther ∷ Given readingOther ∷ []
+otherEvents = Given showingOther ∷ Queried listingOther ∷ Given readingOther ∷ []
 
 -- ---- the claim
 
 abbrev pub IsAccepted : Box → Event → Type 0
 IsAccepted s (Given c) = Accepted base s c
+IsAccepted s (Queried q) = AcceptedQuery base s q
 
 -- an accepted command of kind k on block 0, at a time when the block is protected; P holds of its answer
 pub record ShowsProtected (k : ℕ) (es : List Event) (c : Command) (P : List ℕ → Type 0) : Type 0 where
   pub among : ShownIn base k start 0 es c
   pub protected : Protected base start 0 events otherEvents (c .now)
   pub answers : P (step base (run base start (among .earlier)) c .answer)
+
+-- an accepted query of block 0, twice, and of block 1, at a time when block 0 is protected; what it answers, of one page
+pub record ListsProtected (es : List Event) (q : Query) (answer : List ℕ) : Type 0 where
+  pub earlier : List Event
+  pub later : List Event
+  pub split : es ≡ earlier ++ (Queried q ∷ later)
+  pub names : numbers (q .blocks) ≡ 0 ∷ 1 ∷ 0 ∷ []
+  pub accepted : AcceptedQuery base (run base start earlier) q
+  pub protected : Protected base start 0 events otherEvents (q .now)
+  pub answers : queryStep base (run base start earlier) q .answer ≡ answer
+  pub pages : queryStep base (run base start earlier) q .pages ≡ 1
 
 pub record PremisesMet : Type 0 where
   -- the whole run, from the formatted box on
@@ -157,5 +189,11 @@ pub record PremisesMet : Type 0 where
   pub other-shown : ShowsProtected 2 otherEvents showingOther (λ answer. entryAt answer 0 ≡ entry 500 (stampOf 1000 frozenFlag))
   pub read-back : ShowsProtected 1 events readingBack (λ answer. answer ≡ padded base (repeated (blockSize base) 1))
   pub other-read : ShowsProtected 1 otherEvents readingOther (λ answer. answer ≡ padded base (repeated (blockSize base) 1))
+  -- a query answers for each number the state and the time left: block 0 counts, with 425 seconds left, or is frozen under lock 500;
+  -- block 1 is free, its expiry 0
+  pub listed : ListsProtected events listing
+      (2 ∷ 169 ∷ 1 ∷ 0 ∷ 0 ∷ 0 ∷ 0 ∷ 0 ∷ 0 ∷ 0 ∷ 5 ∷ 251 ∷ 255 ∷ 255 ∷ 255 ∷ 255 ∷ 255 ∷ 255 ∷ 2 ∷ 169 ∷ 1 ∷ 0 ∷ 0 ∷ 0 ∷ 0 ∷ 0 ∷ 0 ∷ [])
+  pub other-listed : ListsProtected otherEvents listingOther
+      (1 ∷ 244 ∷ 1 ∷ 0 ∷ 0 ∷ 0 ∷ 0 ∷ 0 ∷ 0 ∷ 0 ∷ 61 ∷ 250 ∷ 255 ∷ 255 ∷ 255 ∷ 255 ∷ 255 ∷ 255 ∷ 1 ∷ 244 ∷ 1 ∷ 0 ∷ 0 ∷ 0 ∷ 0 ∷ 0 ∷ 0 ∷ [])
   -- and the other run does not unfreeze it: were both as it is, the block would be protected to the end
   pub to-the-end : (t : ℕ) → Protected base start 0 otherEvents otherEvents t

@@ -5,11 +5,14 @@ pub mod Question
 pub mod Effect
 pub mod Step
 pub mod Format
+pub mod Query
 pub mod Call
 pub mod Run
 pub mod Claims
 pub mod After
+pub mod QueryClaims
 pub mod Protection
+pub mod NotFree
 pub mod Shortcuts
 pub mod EdgeValues
 pub mod Example

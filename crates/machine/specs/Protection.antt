@@ -14,7 +14,7 @@ use Rattle.machine.specs.Command.{Box, Command, broughtPage}
 use Rattle.machine.specs.Tag.{currentPage}
 use Rattle.machine.specs.Question.{questions, GetsYes}
 use Rattle.machine.specs.Step.{step, padded, Accepted}
-use Rattle.machine.specs.Run.{Event, Given, run, Throughout}
+use Rattle.machine.specs.Run.{Event, Given, Queried, run, Throughout}
 
 -- γ is the box's geometry; the numbers quoted are those at base
 module _ (γ : Geometry) where
@@ -24,10 +24,12 @@ module _ (γ : Geometry) where
   -- memory and disk which that command gets." Question 7 is put to no other kind
   abbrev pub Unforged : Box → Event → Type 0
   Unforged s (Given c) = GetsYes 7 (questions γ s c) → broughtPage γ (c .proof) ≡ currentPage γ s (groupOf γ (c .block))
+  Unforged s (Queried q) = Unit
 
   -- "A block is unfrozen in a run if the list has an accepted kind 5 on it."
   abbrev pub NotUnfrozen : ℕ → Box → Event → Type 0
   NotUnfrozen b s (Given c) = Accepted γ s c → c .kind ≡ 5 → c .block ≡ b → ⊥
+  NotUnfrozen b s (Queried q) = Unit
 
   -- ---- "What a block was at the start is read off the start's disk."
 
@@ -48,6 +50,7 @@ module _ (γ : Geometry) where
 
   abbrev pub Shows : ℕ → List ℕ → ℕ → (ℕ → Type 0) → Box → Event → Type 0
   Shows b content time during s (Given c) = CommandShows b content time during s c
+  Shows b content time during s (Queried q) = Unit
 
   -- ---- the claim
 

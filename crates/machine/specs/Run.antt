@@ -4,16 +4,20 @@ use mathlib.Core.List.{List, [], _∷_}
 use Rattle.lockpage.specs.Geometry.{Geometry}
 use Rattle.machine.specs.Command.{Box, Command}
 use Rattle.machine.specs.Step.{step}
+use Rattle.machine.specs.Query.{Query, queryStep}
 
--- what may happen to a box: a command is given
+-- what may happen to a box: a command is given; the states of a list of blocks are queried, which "may stand in demand 3's lists"
+-- (document 02, Q-1)
 pub data Event : Type 0 where
   Given : Command → Event
+  Queried : Query → Event
 
 -- γ is the box's geometry
 module _ (γ : Geometry) where
   -- "Each command gets the memory and disk that the one before left, refused or not"
   abbrev pub after : Box → Event → Box
   after s (Given c) = step γ s c .box
+  after s (Queried q) = queryStep γ s q .box
 
   abbrev pub run : Box → List Event → Box
   run s [] = s

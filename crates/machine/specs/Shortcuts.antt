@@ -13,7 +13,7 @@ use Rattle.machine.specs.declared.Kind.the-variants.{Change}
 use Rattle.machine.specs.Command.{Box, Command, kindOf, broughtPage, broughtEntry}
 use Rattle.machine.specs.Tag.{tagMessage}
 use Rattle.machine.specs.Step.{step, Accepted}
-use Rattle.machine.specs.Run.{Event, Given, run, Throughout}
+use Rattle.machine.specs.Run.{Event, Given, Queried, run, Throughout}
 use Rattle.machine.specs.Claims.{RefusedBy}
 use Rattle.machine.specs.Protection.{Unforged}
 
@@ -26,6 +26,7 @@ module _ (γ : Geometry) where
   -- the command is no accepted new salt
   abbrev pub SaltStays : Box → Event → Type 0
   SaltStays s (Given c) = Accepted γ s c → c .kind ≡ 9 → ⊥
+  SaltStays s (Queried q) = Unit
 
   -- the messages of a page of group g under the salt and count of one memory and of another
   abbrev pub TagsDiffer : List ℕ → List ℕ → ℕ → List ℕ → Type 0

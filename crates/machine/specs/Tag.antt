@@ -7,7 +7,9 @@ use lib.Dec.{eqb}
 use Rattle.octets.specs.Number.{bytes}
 use Rattle.lockpage.specs.Geometry.{Geometry}
 use Rattle.lockpage.specs.Size.{pageSize}
-use Rattle.addressing.specs.Map.{pageBlock}
+use Rattle.lockpage.specs.declared.Entry.{Entry}
+use Rattle.lockpage.specs.Page.{entryAt}
+use Rattle.addressing.specs.Map.{groupOf, placeOf, pageBlock}
 use Rattle.disk.specs.Disk.{block}
 use Rattle.memory.specs.Layout.{saltSize, countSize}
 use Rattle.memory.specs.Memory.{salt, count, held, heldPage}
@@ -38,3 +40,7 @@ module _ (γ : Geometry) where
   -- "The current page of a group is the held page if that group is held, else the one on the disk."
   unfoldable pub currentPage : Box → ℕ → List ℕ
   currentPage s g = elim (eqb (held γ (s .memory)) g) [ true ↦ heldPage γ (s .memory) | false ↦ block γ (s .disk) (pageBlock γ g) ]
+
+  -- the entry of block a on the current page of its group
+  abbrev pub currentEntry : Box → ℕ → Entry
+  currentEntry s a = entryAt (currentPage s (groupOf γ a)) (placeOf γ a)

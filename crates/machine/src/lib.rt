@@ -26,6 +26,8 @@ pub const LIMIT_EXCEEDED: u32 = 10;
 
 pub const SALT_UNCHANGED: u32 = 11;
 
+pub const LIST_SIZE_WRONG: u32 = 12;
+
 // What a command asks for. Kinds 4, 5 and 6 change a page.
 pub enum Kind {
     Read,

@@ -3,14 +3,15 @@
 use mathlib.Core.Path.{_≡_, refl, ap, ap₂, sym, _∙_}
 use mathlib.Core.Logic.{_⊎_, inl, inr}
 use mathlib.Core.List.{List, [], _++_, append-assoc, append-nil}
-use Prim.Native.Nat.{ℕ, _+_, _-_, _≤_, _<_}
-use native.Mathlib.Nat.{add-assoc, add-zero, zero-add}
+use Prim.Native.Nat.{ℕ, _+_, _-_, _*_, _≤_, _<_}
+use native.Mathlib.Nat.{add-assoc, add-zero, zero-add, mul-le-mul-left}
 use native.Mathlib.Numerals.{add-one}
 use native.Mathlib.Omega.{arith}
 use lib.ListN.{length, take, drop, getD, set, length-append, length-set, length-drop, take-append-drop, drop-of-length-le}
 use lib.Seq.{take-at, drop-at, take-append-le, drop-append-le, take-append-add, drop-append-add, drop-drop, length-take-le, take-length, sets, sets-eq, paste}
 use lib.Seq.{paste-zero, paste-suc}
 use Rattle.octets.specs.Part.{part, replaced}
+use Rattle.octets.proofs.OrderLaw.{apart}
 use Rattle.octets.proofs.PartLaw.{part-left, part-length, part-part, part-all}
 
 pub replaced-length : (l : List ℕ) (at : ℕ) (new : List ℕ) → at + length new ≤ length l → length (replaced l at new) ≡ length l
@@ -56,6 +57,15 @@ pub part-other : (l : List ℕ) (at : ℕ) (new : List ℕ) (f n : ℕ) → at +
     → part (replaced l at new) f n ≡ part l f n
 part-other l at new f n h (inl k) = part-before l at new f n (omega arith) k
 part-other l at new f n h (inr k) = part-after l at new f n h k
+
+-- items of w elements side by side: another than the one replaced
+pub item-other : (l : List ℕ) (w i : ℕ) (new : List ℕ) → length new ≡ w → w * i + w ≤ length l → (j : ℕ) → (j ≡ i → ⊥)
+    → part (replaced l (w * i) new) (w * j) w ≡ part l (w * j) w
+item-other l w i new e h j n = part-other l (w * i) new (w * j) w (omega (arith, e)) (go (apart j i n))
+  where
+    go : (j < i) ⊎ (i < j) → (w * j + w ≤ w * i) ⊎ (w * i + length new ≤ w * j)
+    go (inl k) = inl (omega (arith, mul-le-mul-left w k))
+    go (inr k) = inr (omega (arith, e, mul-le-mul-left w k))
 
 -- within it
 pub part-within : (l : List ℕ) (at : ℕ) (new : List ℕ) (f n : ℕ) → at + length new ≤ length l → f + n ≤ length new
