@@ -29,35 +29,27 @@ use Rattle.memory.specs.Layout.{memorySize, timeSize}
 use Rattle.memory.specs.Memory.{groups, held, heldPage, withLastTime}
 use Rattle.memory.proofs.FieldLaw.{time-set}
 use Rattle.machine.specs.Command.{answerSize, boxOf, outcomeOf}
-use Rattle.machine.specs.Tag.{tagged, currentPage}
+use Rattle.machine.specs.Tag.{tagged, currentPage, currentEntry}
 use Rattle.machine.specs.Effect.{effectOf, stored, read, entryAnswer, showEntry, showPage, identifySize, identify}
 use Rattle.machine.specs.Step.{padded, timed, done, accepted}
-use Rattle.machine.proofs.TagLaw.{tagged-length, current-held, current-other, current-length}
+use Rattle.machine.proofs.TagLaw.{tagged-length, current-length}
 use Rattle.machine.proofs.StepLaw.{outcome-of, padded-full}
+use Rattle.current_page.proofs.CurrentLaw.{page-held, page-other}
 use Rattle.answers.proofs.TailLaw.{tail-zeroed, named-stored}
 
 -- γ is any proper geometry
 module _ {γ : Geometry} (σ : Proper γ) where
-  -- ---- the current page, by the held group h that was read
+  -- ---- the entry of block a on its group's current page, by the held group h that was read, the group and the place computed
 
-  module _ (m disk : List ℕ) (g h : ℕ) (eh : h ≡ held γ m) where
-    pub page-held : (r : List ℕ) → h ≡ g → r ≡ heldPage γ m → r ≡ currentPage γ (boxOf m disk) g
-    page-held r e er = er ∙ sym (current-held σ (boxOf m disk) g (sym eh ∙ e))
+  module _ (m disk : List ℕ) (g h : ℕ) (eh : h ≡ held γ m) (a i : ℕ) (eg : g ≡ groupOf γ a) (ei : i ≡ placeOf γ a) (r : Entry) where
+    computed : entryAt (currentPage γ (boxOf m disk) g) i ≡ currentEntry γ (boxOf m disk) a
+    computed = ap₂ (λ (k j : ℕ). entryAt (currentPage γ (boxOf m disk) k) j) eg ei
 
-    pub page-other : (r : List ℕ) → (h ≡ g → ⊥) → r ≡ block γ disk (pageBlock γ g) → r ≡ currentPage γ (boxOf m disk) g
-    page-other r n er = er ∙ sym (current-other σ (boxOf m disk) g (λ e. n (eh ∙ e)))
+    pub entry-held : h ≡ g → r ≡ entryAt (heldPage γ m) i → r ≡ currentEntry γ (boxOf m disk) a
+    entry-held e er = er ∙ ap (λ (p : List ℕ). entryAt p i) (page-held σ m disk g h eh (heldPage γ m) e refl) ∙ computed
 
-    -- an entry of it, for block a whose group and place were computed
-    module _ (a i : ℕ) (eg : g ≡ groupOf γ a) (ei : i ≡ placeOf γ a) (r : Entry) where
-      computed : entryAt (currentPage γ (boxOf m disk) g) i ≡ entryAt (currentPage γ (boxOf m disk) (groupOf γ a)) (placeOf γ a)
-      computed = ap₂ (λ (k j : ℕ). entryAt (currentPage γ (boxOf m disk) k) j) eg ei
-
-      pub entry-held : h ≡ g → r ≡ entryAt (heldPage γ m) i → r ≡ entryAt (currentPage γ (boxOf m disk) (groupOf γ a)) (placeOf γ a)
-      entry-held e er = er ∙ ap (λ (p : List ℕ). entryAt p i) (page-held (heldPage γ m) e refl) ∙ computed
-
-      pub entry-other : (h ≡ g → ⊥) → r ≡ entryAt (block γ disk (pageBlock γ g)) i
-          → r ≡ entryAt (currentPage γ (boxOf m disk) (groupOf γ a)) (placeOf γ a)
-      entry-other n er = er ∙ ap (λ (p : List ℕ). entryAt p i) (page-other (block γ disk (pageBlock γ g)) n refl) ∙ computed
+    pub entry-other : (h ≡ g → ⊥) → r ≡ entryAt (block γ disk (pageBlock γ g)) i → r ≡ currentEntry γ (boxOf m disk) a
+    entry-other n er = er ∙ ap (λ (p : List ℕ). entryAt p i) (page-other σ m disk g h eh (block γ disk (pageBlock γ g)) n refl) ∙ computed
 
   -- ---- the answer
 
@@ -115,14 +107,14 @@ module _ {γ : Geometry} (σ : Proper γ) where
         (tail-zeroed σ answer (out ++ drop (blockSize γ) answer) b r (blockSize γ) la (sym size) (omega arith)
         (lent-filled answer b out 0 (blockSize γ) size eo) er)
 
-    pub entry-outcome : (r : List ℕ) (a : ℕ) (e : Entry) → e ≡ entryAt (currentPage γ (boxOf memory disk) (groupOf γ a)) (placeOf γ a)
+    pub entry-outcome : (r : List ℕ) (a : ℕ) (e : Entry) → e ≡ currentEntry γ (boxOf memory disk) a
         → r ≡ padded γ (entryAnswer now e) → outcomeOf 0 memory disk r ≡ accepted γ (λ s. showEntry γ s a now) (boxOf m disk) now
     unfolding showEntry timed
     entry-outcome r a e ee er =
         shown m disk memory _ r now em
         (er
         ∙ ap (λ (x : Entry). padded γ (entryAnswer now x))
-        (ee ∙ ap (λ (x : List ℕ). entryAt (currentPage γ (boxOf x disk) (groupOf γ a)) (placeOf γ a)) em))
+        (ee ∙ ap (λ (x : List ℕ). currentEntry γ (boxOf x disk) a) em))
 
     pub page-outcome : (answer out r : List ℕ) (g : ℕ) → length m ≡ memorySize γ → now < 256 ^ timeSize → length disk ≡ diskSize γ (groups γ m)
         → g < groups γ m → out ≡ currentPage γ (boxOf memory disk) g

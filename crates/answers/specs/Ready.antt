@@ -5,10 +5,7 @@ use mathlib.Core.List.{List}
 use Prim.Native.Nat.{ℕ, _<_}
 use lib.ListN.{length}
 use Rattle.lockpage.specs.Geometry.{Geometry}
-use Rattle.lockpage.specs.Size.{pageSize}
 use Rattle.addressing.specs.Map.{dataBlocks}
-use Rattle.disk.specs.Disk.{HasGroup}
-use Rattle.memory.specs.Layout.{memorySize}
 use Rattle.memory.specs.Memory.{groups}
 use Rattle.machine.specs.Command.{Box, answerSize, boxOf, outcomeOf}
 use Rattle.machine.specs.Effect.{Effect}
@@ -28,12 +25,6 @@ module _ (γ : Geometry) where
     pub box : ValidBox γ s
     pub group : g < groups γ (s .memory)
     pub answer-size : length answer ≡ answerSize γ
-
-  -- a memory, a disk with the group, and a buffer for a page
-  pub record CurrentReady (s : Box) (g : ℕ) (out : List ℕ) : Type 0 where
-    pub memory-size : length (s .memory) ≡ memorySize γ
-    pub group : HasGroup γ (s .disk) g
-    pub page-size : length out ≡ pageSize γ
 
   -- the outcome of an effect that has to do with no disk: on every one
   abbrev pub OnEveryDisk : (Box → Effect) → List ℕ → ℕ → List ℕ → List ℕ → Type 0

@@ -2,17 +2,16 @@
 ghost use mathlib.Core.Path.{_≡_};
 ghost use lib.ListN.{length};
 ghost use Rattle.lockpage.specs.Geometry.{present};
-ghost use Rattle.lockpage.specs.Page.{entryAt};
-ghost use Rattle.addressing.specs.Map.{groupOf, placeOf};
+ghost use Rattle.addressing.specs.Map.{groupOf};
 ghost use Rattle.disk.specs.Disk.{HasGroup};
 ghost use Rattle.memory.specs.Layout.{memorySize};
 ghost use Rattle.machine.specs.Command.{answerSize};
-ghost use Rattle.machine.specs.Tag.{currentPage};
+ghost use Rattle.machine.specs.Tag.{currentEntry};
 ghost use Rattle.machine.specs.Effect.{entryAnswer, showEntry, showPage};
 ghost use Rattle.machine.specs.Effect as E;
 ghost use Rattle.machine.specs.Step.{padded, accepted};
 ghost use Rattle.machine.specs.Call.{boxAt, outcomeAt};
-ghost use Rattle.answers.specs.Ready.{BlockReady, GroupReady, CurrentReady, OnEveryDisk};
+ghost use Rattle.answers.specs.Ready.{BlockReady, GroupReady, OnEveryDisk};
 use crate::tail;
 use lockpage::Entry;
 use lockpage::PAGE_SIZE;
@@ -35,7 +34,7 @@ pub fn read(memory: &mut [u8], disk: &[u8], block: u32, time: u32, answer: &mut 
 // A block's entry on the current page of its group.
 fn current_entry(memory: &[u8], disk: &[u8], block: u32) -> Entry
     requires { ⌜ (length (now memory) ≡ memorySize present) × HasGroup present (now disk) (groupOf present block) ⌝ }
-    ensures { λ r. ⌜ r ≡ entryAt (currentPage present (boxAt (memory .entry) (disk .entry)) (groupOf present block)) (placeOf present block) ⌝ }
+    ensures { λ r. ⌜ r ≡ currentEntry present (boxAt (memory .entry) (disk .entry)) block ⌝ }
 {
     let group = addressing::group_of(block);
     let place = addressing::place_of(block);
@@ -69,18 +68,6 @@ pub fn show_entry(memory: &mut [u8], disk: &[u8], block: u32, time: u32, answer:
     answer_entry(answer, e, time);
 }
 
-// Copies the current page of a group into out.
-fn copy_current(memory: &[u8], disk: &[u8], group: u32, out: &mut [u8])
-    requires { ⌜ CurrentReady present (boxAt memory disk) group (now out) ⌝ }
-    ensures { λ _. ⌜ now (out .exit) ≡ currentPage present (boxAt (memory .entry) (disk .entry)) group ⌝ }
-{
-    if memory::held(memory) == group {
-        held_page::copy_page(memory, out);
-        return;
-    }
-    disk::whole::read_page(disk, group, out);
-}
-
 // Kind 3: the current page of a group and its tag.
 pub fn show_page(memory: &mut [u8], disk: &[u8], group: u32, time: u32, answer: &mut [u8])
     requires { ⌜ GroupReady present (boxAt memory disk) group (now answer) ⌝ }
@@ -88,7 +75,7 @@ pub fn show_page(memory: &mut [u8], disk: &[u8], group: u32, time: u32, answer: 
         ≡ accepted present (λ s. showPage present s group) (boxAt (memory .entry) (disk .entry)) time ⌝ }
 {
     memory::set_last_time(memory, time);
-    copy_current(memory, disk, group, &mut answer[0..PAGE_SIZE]);
+    current_page::fetch(memory, disk, group, &mut answer[0..PAGE_SIZE]);
     tags::store_tag(memory, group, answer);
 }
 

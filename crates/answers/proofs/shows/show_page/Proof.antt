@@ -10,17 +10,17 @@ use Rattle.answers.proofs.shows.show_page.Statement.{statement}
 use Rattle.answers.proofs.shows.show_page.Tie as tie
 
 -- the states on the way back: the page copied, the memory with its last time set, the start
-abbrev copied : tie.After-store-tag-arg2 → tie.After-copy-current
+abbrev copied : tie.After-store-tag-arg2 → tie.After-fetch
 copied c = c .before .before .before .before
 
-abbrev kept : tie.After-copy-current → tie.After-memory
+abbrev kept : tie.After-fetch → tie.After-memory
 kept c = c .before .before .before .before
 
 abbrev start : tie.After-set-last-time-arg → tie.Start
 start c = c .before .before .before .before
 
-copy-current-requires : tie.Need-copy-current-requires
-copy-current-requires c κs =
+fetch-requires : tie.Need-fetch-requires
+fetch-requires c κs =
     let memory = c .before .before .before in
     let ready = start (memory .before .before) .pre in
     record {
@@ -43,10 +43,10 @@ returns c =
     let timed = kept page .before in
     let ready = start (timed .before) .pre in
     page-outcome σ _ _ _ _ (timed .set-last-time .ensures) (start (timed .before) .args .answer .now) _ _ _ (facts σ _ (ready .box .memory) .size)
-    (omega (arith, start (timed .before) .fits .time)) (ready .box .disk) (ready .group) (page .copy-current .ensures) (tagged .store-tag .ensures)
+    (omega (arith, start (timed .before) .fits .time)) (ready .box .disk) (ready .group) (page .fetch .ensures .1) (tagged .store-tag .ensures)
 
 pub show-page-spec : {M : Type 1} → statement M
 show-page-spec =
     tie.close
     (tie.spec (λ c κs. facts σ _ (start c .pre .box .memory) .size) (λ c. search needs) (λ c. search needs)
-    (λ c. search needs) copy-current-requires store-tag-requires (λ c. search needs) (λ c. search needs) returns)
+    (λ c. search needs) fetch-requires store-tag-requires (λ c. search needs) (λ c. search needs) returns)

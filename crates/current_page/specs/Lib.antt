@@ -1,0 +1,2 @@
+-- What a fetch takes for granted.
+pub mod Ready
