@@ -16,7 +16,7 @@ use lockpage::Entry;
 use machine::Kind;
 
 // Question 2.
-fn disk_fits(memory: &[u8], disk: &[u8]) -> bool
+pub fn disk_fits(memory: &[u8], disk: &[u8]) -> bool
     requires { ⌜ length (now memory) ≡ memorySize present ⌝ }
     ensures { λ r. ⌜ r ≡ passes (question2 present (now (memory .entry)) (now (disk .entry))) ⌝ }
 {
@@ -24,7 +24,7 @@ fn disk_fits(memory: &[u8], disk: &[u8]) -> bool
 }
 
 // Question 4.
-fn is_timely(memory: &[u8], time: u32) -> bool
+pub fn is_timely(memory: &[u8], time: u32) -> bool
     requires { ⌜ length (now memory) ≡ memorySize present ⌝ }
     ensures { λ r. ⌜ r ≡ passes (question4 present (now (memory .entry)) time) ⌝ }
 {
