@@ -17,6 +17,22 @@ static unsigned command(uint32_t kind, uint32_t now, uint32_t value, const uint8
     return number;
 }
 
+/* The states of blocks 0 and 1 in one call, which answers two numbers: its own and that of pages read. */
+static void print_states(uint32_t now) {
+    const uint8_t blocks[2 * SOCKJADE_NUMBER_SIZE] = {0, 0, 0, 0, 1, 0, 0, 0};
+    uint8_t shown[2 * SOCKJADE_SHOWN_SIZE];
+    uint64_t result = sockjade_states(memory, sizeof memory, disk, sizeof disk, blocks, sizeof blocks, now, shown, sizeof shown);
+    printf("states at %u %u, pages read %u\n", (unsigned)now, (unsigned)sockjade_number(result), (unsigned)sockjade_second(result));
+    if (sockjade_number(result) != SOCKJADE_ACCEPTED)
+        return;
+    for (const uint8_t *s = shown; s < shown + sizeof shown; s += SOCKJADE_SHOWN_SIZE) {
+        uint64_t left = 0;
+        for (int i = 8; i >= 1; i--)
+            left = left << 8 | s[i];
+        printf("  state %u, time left %lld\n", (unsigned)s[0], (long long)left);
+    }
+}
+
 int main(void) {
     const uint8_t salt[SOCKJADE_SALT_SIZE] = {0}; /* from the box's own generator, in earnest */
     uint8_t block[SOCKJADE_BLOCK_SIZE];
@@ -26,6 +42,7 @@ int main(void) {
     printf("write, lock 500 %u\n", command(SOCKJADE_WRITE, 1000, 500, block, sizeof block));
     printf("write again %u\n", command(SOCKJADE_WRITE, 1001, 500, block, sizeof block));
     printf("unfreeze %u\n", command(SOCKJADE_UNFREEZE, 1200, 0, block, 0));
+    print_states(1650);
     printf("write at 1699 %u\n", command(SOCKJADE_WRITE, 1699, 9, block, sizeof block));
     printf("write at 1700 %u\n", command(SOCKJADE_WRITE, 1700, 9, block, sizeof block));
     printf("read %u", command(SOCKJADE_READ, 1700, 0, block, 0));

@@ -1,7 +1,9 @@
 /* Sockjade: a timelock controller for a depot's download box.
  *
  * Every function answers a number: SOCKJADE_ACCEPTED, or the number of the first question that said no. Where it is not
- * SOCKJADE_ACCEPTED, no byte of any buffer is changed. A call may be made with any numbers and with buffers of any length.
+ * SOCKJADE_ACCEPTED, no byte of any buffer is changed. A function with a result of 32 bits answers that number alone; one with a
+ * result of 64 bits, as sockjade_states, answers a second one with it, and sockjade_number and sockjade_second take the two apart.
+ * A call may be made with any numbers and with buffers of any length.
  *
  * What the caller sees to, which no proof covers: each pointer is valid for the length beside it and not null, even where the
  * length is 0; the buffers of one call do not overlap; and two calls with the same memory or disk do not run at once. There is
@@ -12,7 +14,7 @@
  * - Restart and new salt, kinds 8 and 9, are given by the box alone. A server's request for one is refused before the controller
  *   is called: a restart gives up the held page, and with it each lock that is not yet on the disk.
  * - A new salt is from the box's own generator, and no salt comes twice.
- * - Memory and disk as an accepted command leaves them are stored, whole, before its answer leaves the box.
+ * - Memory and disk as an accepted command or list leaves them are stored, whole, before its answer leaves the box.
  * - Nobody else writes them.
  * Then a lock holds through everything that a server sends from the moment that the write is accepted, and it outlasts a restart
  * once its page is on the disk: by a sync, by a new salt, or because another group's page took its place. examples/service/ is a
@@ -35,13 +37,14 @@ enum {
     SOCKJADE_DISK_SIZE_WRONG = 2,      /* the disk is not groups * 33,280 bytes */
     SOCKJADE_KIND_UNKNOWN = 3,         /* the kind is not 1 to 10 */
     SOCKJADE_TIME_OUT_OF_RANGE = 4,    /* now is before the last time, or above 2,147,483,647 */
-    SOCKJADE_ADDRESS_OUT_OF_RANGE = 5, /* no such data block; for a page, no such group */
-    SOCKJADE_LENGTH_WRONG = 6,         /* data, proof or answer is not of the kind's length; when formatting, the salt */
+    SOCKJADE_ADDRESS_OUT_OF_RANGE = 5, /* no such data block, alone or in a list; for a page, no such group */
+    SOCKJADE_LENGTH_WRONG = 6,         /* data, proof or answer is not of the kind's or the list's length; when formatting, the salt */
     SOCKJADE_TAG_WRONG = 7,            /* the tag is not that of the page brought, under the present salt and count */
     SOCKJADE_COUNT_EXHAUSTED = 8,      /* the group's count is exhausted, until a new salt */
     SOCKJADE_STATE_WRONG = 9,          /* write: not free; unfreeze: not frozen; increment: free */
     SOCKJADE_LIMIT_EXCEEDED = 10,      /* a lock above 2,147,483,647 or an expiry above 4,294,967,294 */
-    SOCKJADE_SALT_UNCHANGED = 11       /* the new salt is the present one */
+    SOCKJADE_SALT_UNCHANGED = 11,      /* the new salt is the present one */
+    SOCKJADE_LIST_SIZE_WRONG = 12      /* the list is not 1 to 64 numbers of 4 bytes each; asked after 4 */
 };
 
 /* Kinds of commands, with what each takes beside block and now, and what its answer has before the zeros. */
@@ -58,14 +61,14 @@ enum {
     SOCKJADE_IDENTIFY = 10  /* answer: groups, data blocks (4 bytes each) */
 };
 
-/* States in the answer of SOCKJADE_ENTRY. */
+/* States in the answer of SOCKJADE_ENTRY, and of sockjade_states. */
 enum {
     SOCKJADE_FREE = 0,
     SOCKJADE_FROZEN = 1,
     SOCKJADE_COUNTING = 2
 };
 
-/* Sizes in bytes. Numbers of several bytes are little-endian. */
+/* Sizes in bytes, and how many there are of something. Numbers of several bytes are little-endian. */
 enum {
     SOCKJADE_MEMORY_SIZE = 616,
     SOCKJADE_GROUP_SIZE = 33280,       /* on the disk, for each group */
@@ -77,15 +80,36 @@ enum {
     SOCKJADE_SALT_SIZE = 32,
     SOCKJADE_DIGEST_SIZE = 32,
     SOCKJADE_LONGEST_INPUT = 65536,    /* of a digest */
+    SOCKJADE_NUMBER_SIZE = 4,          /* of a block number in a list */
+    SOCKJADE_SHOWN_SIZE = 9,           /* answered for each number of a list: state, time left (signed, 8 bytes) */
+    SOCKJADE_MOST_NUMBERS = 64,        /* in a list */
     SOCKJADE_MOST_GROUPS = 16,
     SOCKJADE_BLOCKS_PER_GROUP = 64
 };
+
+/* The two numbers of a result of 64 bits: the number answered, in the low half, and the second one, in the high half, which is 0
+ * where the first is not SOCKJADE_ACCEPTED. */
+static inline uint32_t sockjade_number(uint64_t result) {
+    return (uint32_t)result;
+}
+
+static inline uint32_t sockjade_second(uint64_t result) {
+    return (uint32_t)(result >> 32);
+}
 
 /* One command, on the box's memory and disk. For kinds without data or proof the length is 0. `answer_len` is
  * SOCKJADE_ANSWER_SIZE for every kind. An accepted command sets the box's last time to `now`. */
 uint32_t sockjade_command(uint8_t *memory, size_t memory_len, uint8_t *disk, size_t disk_len, uint32_t kind, uint32_t block,
                           uint32_t now, uint32_t value, const uint8_t *data, size_t data_len, const uint8_t *proof,
                           size_t proof_len, uint8_t *answer, size_t answer_len);
+
+/* The states of the blocks in a list, at `now`. `blocks` is 1 to SOCKJADE_MOST_NUMBERS block numbers of SOCKJADE_NUMBER_SIZE bytes,
+ * in any order; one may come again. The answer has SOCKJADE_SHOWN_SIZE bytes for each, in the list's order: the state, then the
+ * time left, as SOCKJADE_ENTRY has them. An accepted list sets the box's last time to `now`, and the answer; nothing else changes.
+ * The number is SOCKJADE_ACCEPTED, or 1, 2, 4, 12, 5 or 6, asked in this order; the second is the number of pages read, one for
+ * each group named. */
+uint64_t sockjade_states(uint8_t *memory, size_t memory_len, const uint8_t *disk, size_t disk_len, const uint8_t *blocks,
+                         size_t blocks_len, uint32_t now, uint8_t *answer, size_t answer_len);
 
 /* Formats a box of `groups` groups: fills the memory, and makes every data block free by storing each group's blank page.
  * It touches no data block. Answers SOCKJADE_ACCEPTED, or 1, 2 or 6. */

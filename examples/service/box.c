@@ -89,11 +89,12 @@ void lock_box(const struct box *box) {
 
 /* ---- The controller ---- */
 
+static const uint8_t none[1]; /* no pointer is null, even where the length is 0 */
+
 /* Calls the controller, for this file alone: it takes any kind. The answer is given out once the stores are on the file, and not
  * before: if power failed in between, the count would fall back, and the page given out could match again when it is not the
  * current one. */
 static uint32_t call_controller(struct box *box, struct request r, uint8_t answer[SOCKJADE_ANSWER_SIZE]) {
-    const uint8_t none[1] = {0}; /* no pointer is null, even where the length is 0 */
     uint32_t number = sockjade_command(box->memory, sizeof box->memory, box->disk, sizeof box->disk, r.kind, r.block, box->clock,
                                        r.value, r.data_len > 0 ? r.data : none, r.data_len, r.proof_len > 0 ? r.proof : none,
                                        r.proof_len, answer, SOCKJADE_ANSWER_SIZE);
@@ -108,6 +109,20 @@ struct reply serve_request(struct box *box, struct request request) {
     if (reply.reserved)
         return reply;
     reply.number = call_controller(box, request, reply.answer);
+    return reply;
+}
+
+/* The server chooses the length of the list, so the answer's is kept within the buffer: a longer list is refused, whatever the answer. */
+struct list_reply serve_list(struct box *box, const uint8_t *blocks, size_t blocks_len) {
+    struct list_reply reply = {0};
+    size_t numbers = blocks_len / SOCKJADE_NUMBER_SIZE;
+    size_t shown_len = numbers <= SOCKJADE_MOST_NUMBERS ? numbers * SOCKJADE_SHOWN_SIZE : 0;
+    uint64_t result = sockjade_states(box->memory, sizeof box->memory, box->disk, sizeof box->disk, blocks_len > 0 ? blocks : none,
+                                      blocks_len, box->clock, reply.shown, shown_len);
+    reply.number = sockjade_number(result);
+    reply.pages = sockjade_second(result);
+    if (reply.number == SOCKJADE_ACCEPTED)
+        store(box); /* the last time */
     return reply;
 }
 

@@ -1,9 +1,10 @@
 /* The box's side of the service, which is what a service copies: box.h and box.c. The box has memory, disk, clock and generator,
  * and alone calls the controller. Nothing that a server keeps or sends is trusted.
  *
- * A server's request goes through `serve_request`; no other function takes one. Restart and new salt (kinds 8 and 9) are the
- * box's own: `start_box` and `renew_salt` give them, and `serve_request` refuses them before the controller is called. A restart
- * gives up the held page: a server that could send one would undo each lock that is not yet on the disk. */
+ * A server's request goes through `serve_request`, and a list of blocks through `serve_list`; no other function takes one. Restart
+ * and new salt (kinds 8 and 9) are the box's own: `start_box` and `renew_salt` give them, and `serve_request` refuses them before
+ * the controller is called. A restart gives up the held page: a server that could send one would undo each lock that is not yet on
+ * the disk. */
 #ifndef BOX_H
 #define BOX_H
 
@@ -31,8 +32,17 @@ struct reply {
     uint8_t answer[SOCKJADE_ANSWER_SIZE];
 };
 
+/* What goes back for a list of blocks. */
+struct list_reply {
+    uint32_t number, pages; /* the controller's, and the pages that it read */
+    uint8_t shown[SOCKJADE_MOST_NUMBERS * SOCKJADE_SHOWN_SIZE];
+};
+
 /* A server's request, at the box's time. */
 struct reply serve_request(struct box *box, struct request request);
+
+/* The states of the blocks in a server's list, at the box's time. */
+struct list_reply serve_list(struct box *box, const uint8_t *blocks, size_t blocks_len);
 
 /* What the box does by itself; each answers the controller's number. */
 

@@ -9,11 +9,12 @@
 static void print_line(const struct box *box, const char *what, uint32_t number, const char *detail) {
     static const char *const words[] = {"accepted",          "memory invalid",       "disk size wrong", "kind unknown",
                                         "time out of range", "address out of range", "length wrong",    "tag wrong",
-                                        "count exhausted",   "state wrong",          "limit exceeded",  "salt unchanged"};
+                                        "count exhausted",   "state wrong",          "limit exceeded",  "salt unchanged",
+                                        "list size wrong"};
     printf("%4" PRIu32 " %s: %" PRIu32 " %s%s\n", box->clock, what, number, words[number], detail);
 }
 
-/* ---- The server's side: it reaches the box by `serve_request` alone ---- */
+/* ---- The server's side: it reaches the box by `serve_request` and `serve_list` alone ---- */
 
 struct server {
     uint8_t page[GROUPS][SOCKJADE_PROOF_SIZE]; /* its copy of each group's page, with the tag */
@@ -33,17 +34,21 @@ static struct request make_request(const struct server *copies, uint32_t kind, u
                             .proof_len = update ? SOCKJADE_PROOF_SIZE : 0};
 }
 
-/* What an accepted read or entry answers. */
-static void describe(char *text, size_t size, uint32_t kind, const uint8_t *answer) {
+/* A state and the 8 bytes of time left, as an entry and a list answer them. */
+static void describe_state(char *text, size_t size, uint8_t state, const uint8_t *time_left) {
     static const char *const states[] = {"free", "frozen", "counting"};
     uint64_t left = 0;
+    for (int i = 7; i >= 0; i--)
+        left = left << 8 | time_left[i];
+    snprintf(text, size, ", %s, %" PRId64 " left", states[state], (int64_t)left);
+}
+
+/* What an accepted read or entry answers. */
+static void describe(char *text, size_t size, uint32_t kind, const uint8_t *answer) {
     if (kind == SOCKJADE_READ)
         snprintf(text, size, ", '%c'", answer[0]);
-    if (kind != SOCKJADE_ENTRY)
-        return;
-    for (int i = 15; i >= 8; i--)
-        left = left << 8 | answer[i];
-    snprintf(text, size, ", %s, %" PRId64 " left", states[answer[16]], (int64_t)left);
+    if (kind == SOCKJADE_ENTRY)
+        describe_state(text, size, answer[16], answer + 8);
 }
 
 /* Sends a request and prints what comes back. A page that is answered becomes the server's copy. */
@@ -71,6 +76,23 @@ static void send_at(uint32_t now, struct box *box, struct server *server, const 
     memset(data, letter, sizeof data);
     box->clock = now;
     send_request(server, box, what, make_request(server, kind, block, value, data));
+}
+
+/* Sends a list of blocks, and prints what comes back, a line for each block. */
+static void send_list(struct box *box, const char *what, const uint32_t *blocks, size_t numbers) {
+    uint8_t list[(SOCKJADE_MOST_NUMBERS + 1) * SOCKJADE_NUMBER_SIZE];
+    char detail[64] = "";
+    for (size_t i = 0; i < numbers * SOCKJADE_NUMBER_SIZE; i++)
+        list[i] = (uint8_t)(blocks[i / SOCKJADE_NUMBER_SIZE] >> 8 * (i % SOCKJADE_NUMBER_SIZE));
+    struct list_reply reply = serve_list(box, list, numbers * SOCKJADE_NUMBER_SIZE);
+    if (reply.number == SOCKJADE_ACCEPTED)
+        snprintf(detail, sizeof detail, ", pages read: %" PRIu32, reply.pages);
+    print_line(box, what, reply.number, detail);
+    for (size_t i = 0; reply.number == SOCKJADE_ACCEPTED && i < numbers; i++) {
+        const uint8_t *shown = reply.shown + i * SOCKJADE_SHOWN_SIZE;
+        describe_state(detail, sizeof detail, shown[0], shown + 1);
+        printf("     block %" PRIu32 "%s\n", blocks[i], detail);
+    }
 }
 
 /* ---- What happens ---- */
@@ -156,6 +178,17 @@ static void power_cut(struct box *box, struct server *server) {
     send_at(1600, box, server, "entry of block 0", SOCKJADE_ENTRY, 0, 0, 0);
 }
 
+/* What a status page shows, without a request for each block. One number out of range, or one too many, and the list is refused. */
+static void status_page(struct box *box) {
+    const uint32_t shown[] = {64, 0, 1, 65, 0}, beyond[] = {0, GROUPS * SOCKJADE_BLOCKS_PER_GROUP};
+    const uint32_t too_many[SOCKJADE_MOST_NUMBERS + 1] = {0};
+    printf("a status page: many blocks in one go\n");
+    send_list(box, "states of 5 blocks", shown, sizeof shown / sizeof shown[0]);
+    send_list(box, "states, with block 128", beyond, sizeof beyond / sizeof beyond[0]);
+    send_list(box, "states of 65 blocks", too_many, sizeof too_many / sizeof too_many[0]);
+    send_list(box, "states of no block", shown, 0);
+}
+
 static void second_run(struct box *box, struct server *server) {
     printf("second run: the box is in the file, as an orderly stop left it\n");
     start(box, 1500);
@@ -163,6 +196,7 @@ static void second_run(struct box *box, struct server *server) {
     send_at(1500, box, server, "page of group 1", SOCKJADE_PAGE, 1, 0, 0);
     send_at(1500, box, server, "entry of block 0", SOCKJADE_ENTRY, 0, 0, 0);
     send_at(1500, box, server, "entry of block 64", SOCKJADE_ENTRY, 64, 0, 0);
+    status_page(box);
     power_cut(box, server);
     printf("the countdown ends\n");
     send_at(1699, box, server, "write block 0", SOCKJADE_WRITE, 0, 1000, 'e');

@@ -68,7 +68,7 @@ void refuse_update(const char *what, struct box *box, struct command command, ui
     refuse_command(what, box, command, constant, expected);
 }
 
-static void store_little_endian(uint8_t *out, uint32_t number, unsigned size) {
+void store_little_endian(uint8_t *out, uint32_t number, unsigned size) {
     for (unsigned i = 0; i < size; i++)
         out[i] = i < 4 ? (uint8_t)(number >> 8 * i) : 0;
 }

@@ -9,7 +9,7 @@ enum { ROOM = 1024, TEST_GROUPS = 2 };
 
 struct box {
     uint8_t memory[616 + ROOM], disk[TEST_GROUPS * 33280 + ROOM];
-    uint8_t data[512 + ROOM];   /* of a write or a new salt */
+    uint8_t data[512 + ROOM];   /* of a write or a new salt; or a list of blocks */
     uint8_t proof[544 + ROOM];  /* of an update: a page and its tag */
     uint8_t answer[544 + ROOM];
 };
@@ -39,6 +39,9 @@ void accept_update(const char *what, struct box *box, uint32_t kind, uint32_t bl
 
 /* The same, refused. */
 void refuse_update(const char *what, struct box *box, struct command command, uint32_t constant, uint32_t expected);
+
+/* Stores the number in as many bytes. */
+void store_little_endian(uint8_t *out, uint32_t number, unsigned size);
 
 /* The tag of a page: of salt, group in 8 bytes, count in 4 bytes, page. The salt is the box's first. */
 void make_tag(uint8_t *tag, uint32_t group, uint32_t count, const uint8_t *page);

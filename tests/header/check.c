@@ -22,7 +22,7 @@ void check_number(const char *what, uint32_t answered, uint32_t constant, uint32
     if (answered == constant && answered == expected)
         return;
     failed++;
-    printf("header: %s: the archive answers %lu, the header has %lu, document 01 has %lu\n", what, (unsigned long)answered,
+    printf("header: %s: the archive answers %lu, the header has %lu, the papers have %lu\n", what, (unsigned long)answered,
            (unsigned long)constant, (unsigned long)expected);
 }
 

@@ -5,7 +5,7 @@
 #include <stddef.h>
 #include <stdint.h>
 
-/* What the archive answered is the header's constant, and document 01's number. */
+/* What the archive answered is the header's constant, and the papers' number. */
 void check_number(const char *what, uint32_t answered, uint32_t constant, uint32_t expected);
 
 /* The bytes are those written in hexadecimal, as many as are written. */

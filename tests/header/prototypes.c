@@ -1,4 +1,4 @@
-/* The functions, with their arguments in document 01's order. They are declared a second time, so that a header which has them with
+/* The functions, with their arguments in the papers' order. They are declared a second time, so that a header which has them with
  * other types, or in another order that the types show, does not compile. */
 #include "sockjade.h"
 
@@ -6,6 +6,10 @@
 uint32_t sockjade_command(uint8_t *memory, size_t memory_len, uint8_t *disk, size_t disk_len, uint32_t kind, uint32_t block,
                           uint32_t now, uint32_t value, const uint8_t *data, size_t data_len, const uint8_t *proof,
                           size_t proof_len, uint8_t *answer, size_t answer_len);
+
+/* Document 02, Q-1: "takes 1 to 64 block numbers .., now and an answer buffer"; "gives .."; "The number of pages read is reported" */
+uint64_t sockjade_states(uint8_t *memory, size_t memory_len, const uint8_t *disk, size_t disk_len, const uint8_t *blocks,
+                         size_t blocks_len, uint32_t now, uint8_t *answer, size_t answer_len);
 
 /* "Formatting takes G and a salt" */
 uint32_t sockjade_format(uint8_t *memory, size_t memory_len, uint8_t *disk, size_t disk_len, uint32_t groups,

@@ -6,5 +6,6 @@ void test_digest(void);
 void test_format(void);
 void test_kinds(void);
 void test_numbers(void);
+void test_states(void);
 
 #endif

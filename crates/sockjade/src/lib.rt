@@ -4,7 +4,8 @@ ghost use mathlib.Core.Path.{_≡_};
 ghost use Rattle.lockpage.specs.Geometry.{present};
 ghost use Rattle.machine.specs.Step.{step};
 ghost use Rattle.machine.specs.Format.{format};
-ghost use Rattle.machine.specs.Call.{boxAt, commandAt, outcomeAt, formatOutcomeAt};
+ghost use Rattle.machine.specs.Query.{queryStep};
+ghost use Rattle.machine.specs.Call.{boxAt, commandAt, outcomeAt, formatOutcomeAt, queryAt, queryOutcomeAt, lowHalf, highHalf};
 ghost use Rattle.sockjade.specs.Digest.{digestOutcome, digestCall};
 
 const LONGEST_INPUT: usize = 65536;
@@ -53,6 +54,30 @@ pub extern "C" fn sockjade_command(
         proof,
         answer,
     )
+}
+
+// Two numbers in one: the first in the low half, the second in the high half.
+fn two_numbers(first: u32, second: u32) -> u64
+    ensures { λ r. ⌜ (lowHalf r ≡ first) × (highHalf r ≡ second) ⌝ }
+{
+    first as u64 + second as u64 * 4294967296
+}
+
+// The states of a list of blocks: its number, with memory and answer as document 02 has it, and in the high half the pages read; where
+// the number is not 0, no byte changed, and 0 pages.
+#[no_mangle]
+pub extern "C" fn sockjade_states(
+    memory: &mut [u8],
+    disk: &[u8],
+    blocks: &[u8],
+    time: u32,
+    answer: &mut [u8],
+) -> u64
+    ensures { λ r. ⌜ queryOutcomeAt (lowHalf r) (highHalf r) (memory .exit) (disk .entry) (answer .exit)
+        ≡ queryStep present (boxAt (memory .entry) (disk .entry)) (queryAt (blocks .entry) time (answer .entry)) ⌝ }
+{
+    let answered = block_states::states(memory, disk, blocks, time, answer);
+    two_numbers(answered.number, answered.pages)
 }
 
 // Formats a box: 0, with memory and disk as document 01 has it; where the number is not 0, no byte changed.
