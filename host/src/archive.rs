@@ -29,6 +29,18 @@ extern "C" {
         salt: *const u8,
         salt_len: usize,
     ) -> u32;
+
+    fn sockjade_states(
+        memory: *mut u8,
+        memory_len: usize,
+        disk: *const u8,
+        disk_len: usize,
+        blocks: *const u8,
+        blocks_len: usize,
+        now: u32,
+        answer: *mut u8,
+        answer_len: usize,
+    ) -> u64;
 }
 
 /// The archive's digest: 0 and the digest in `out`, or 6 and `out` as it was.
@@ -84,5 +96,32 @@ pub fn format(memory: &mut [u8], disk: &mut [u8], groups: u32, salt: &[u8]) -> u
             salt.as_ptr(),
             salt.len(),
         )
+    }
+}
+
+/// The archive's states of a list of blocks, with both its numbers in one: see `outcome`.
+pub fn states(memory: &mut [u8], disk: &[u8], blocks: &[u8], now: u32, answer: &mut [u8]) -> u64 {
+    // SAFETY: the function has no precondition beyond four valid slices that do not overlap.
+    unsafe {
+        sockjade_states(
+            memory.as_mut_ptr(),
+            memory.len(),
+            disk.as_ptr(),
+            disk.len(),
+            blocks.as_ptr(),
+            blocks.len(),
+            now,
+            answer.as_mut_ptr(),
+            answer.len(),
+        )
+    }
+}
+
+/// How a list's pages read, or the question that said no, are answered: the number in the low 32
+/// bits, the pages in the high ones.
+pub fn outcome(listed: Result<u32, u32>) -> u64 {
+    match listed {
+        Ok(pages) => (pages as u64) << 32,
+        Err(number) => number as u64,
     }
 }

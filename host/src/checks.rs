@@ -1,10 +1,11 @@
-//! The comparison of commands, whose checks `bin/commands.rs` runs, and in `script` that of scripts.
+//! The comparison of commands and lists, whose checks `bin/commands.rs` runs, and in `script` that of scripts.
 mod alone;
 pub mod call;
 pub mod edges;
 pub mod effects;
 pub mod lengths;
 pub mod limits;
+pub mod lists;
 pub mod order;
 pub mod pages;
 pub mod pair;

@@ -1,11 +1,14 @@
 //! The controller, written from document 01 and apart from the Rattle code. It works on the slices
-//! that it is lent. The questions see them only to read, so a refusal cannot change a byte.
+//! that it is lent. The questions see them only to read, so a refusal cannot change a byte. In
+//! `states` is the list of document 02's request Q-1.
 mod entry;
 mod memory;
+mod states;
 
 use crate::blake3;
 use entry::{Entry, Update};
 use memory::{Memory, Page, LAST_COUNT, LATEST, PAGE_SIZE};
+pub use states::states;
 use std::ops::Range;
 
 pub const READ: u32 = 1;
@@ -114,14 +117,27 @@ fn ask(yes: bool, number: u32) -> Result<(), u32> {
     if yes { Ok(()) } else { Err(number) }
 }
 
-/// The questions in order; for an update that passes, the entry that it stores.
-fn questions<D: Digest>(memory: &[u8], disk: &[u8], c: &Command, answer_len: usize) -> Result<Option<Entry>, u32> {
+/// Questions 1 and 2, which are about the box. Inlined, as the benchmark compiles `command` in a crate of its own.
+#[inline]
+fn ask_box<'a>(memory: &'a [u8], disk: &[u8]) -> Result<&'a Memory, u32> {
     let memory = Memory::of(memory).ok_or(1u32)?;
     ask(memory.valid(), 1)?;
+    ask(disk.len() == memory.groups() * GROUP_SIZE, 2)?;
+    Ok(memory)
+}
+
+/// Question 4.
+#[inline]
+fn ask_time(memory: &Memory, now: u32) -> Result<(), u32> {
+    ask(memory.last_time() <= now && now <= LATEST, 4)
+}
+
+/// The questions in order; for an update that passes, the entry that it stores.
+fn questions<D: Digest>(memory: &[u8], disk: &[u8], c: &Command, answer_len: usize) -> Result<Option<Entry>, u32> {
+    let memory = ask_box(memory, disk)?;
     let groups = memory.groups();
-    ask(disk.len() == groups * GROUP_SIZE, 2)?;
     ask((READ..=IDENTIFY).contains(&c.kind), 3)?;
-    ask(memory.last_time() <= c.now && c.now <= LATEST, 4)?;
+    ask_time(memory, c.now)?;
     let named = match c.kind {
         READ | ENTRY | WRITE | UNFREEZE | INCREMENT => c.block < GROUP_DATA * groups as u32,
         PAGE => c.block < groups as u32,
@@ -195,6 +211,7 @@ fn page_place(group: usize) -> Range<usize> {
     end - PAGE_SIZE..end
 }
 
+#[inline]
 fn current_page<'a>(memory: &'a Memory, disk: &'a [u8], group: usize) -> &'a Page {
     if memory.held() == Some(group) {
         return memory.held_page();

@@ -1,9 +1,9 @@
-//! Compares the archive's controller with this crate's: every number and byte after every command.
-//! Arguments: SEED COUNT, the seed of the random runs and how many commands they have. It stops at
-//! the first difference; a run is a function of its seed. The last line has the counts for the gate.
+//! Compares the archive's controller with this crate's: every number and byte after every command and
+//! every list. Arguments: SEED COUNT, the seed of the random runs and how many commands and lists they
+//! have. It stops at the first difference; a run is a function of its seed. The last line has the counts for the gate.
 use sockjade_host::arguments::seed_and_count;
 use sockjade_host::checks::pair::Pair;
-use sockjade_host::checks::{edges, effects, lengths, limits, order, pages, runs, stack, validity, Checked};
+use sockjade_host::checks::{edges, effects, lengths, limits, lists, order, pages, runs, stack, validity, Checked};
 use std::process::ExitCode;
 
 const SEED: u64 = 1;
@@ -20,15 +20,20 @@ fn main() -> ExitCode {
         }
     };
     println!("commands: seed {seed}");
-    let checks: [Check; 11] = [
+    let checks: [Check; 16] = [
         &|_| edges::check(),
         &|_| effects::check(),
+        &|_| lists::hand::check(),
         &lengths::check,
         &validity::check,
         &order::check,
         &order::check_formatting,
         &limits::check,
         &pages::check,
+        &lists::order::check,
+        &lists::lengths::check,
+        &lists::limits::check,
+        &|pair| lists::states::check(pair, seed),
         &|pair| runs::check(pair, seed, count),
         &|pair| pair.table.check(),
         &|_| stack::check(),

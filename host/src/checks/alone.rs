@@ -42,6 +42,37 @@ impl Archive {
         same(&format!("the entry of {block} at {now}"), &self.answer[..17], &bytes)?;
         same("the rest of the answer", &self.answer[17..], &[0; 527])
     }
+
+    /// A list reads so many pages, shows these bytes for each number, and changes nothing but the time.
+    pub fn lists(&mut self, blocks: &[u32], now: u32, pages: u32, shown: &[[u8; 9]]) -> Result<(), String> {
+        let what = format!("the list {blocks:?} at {now}");
+        let bytes: Vec<u8> = blocks.iter().flat_map(|block| block.to_le_bytes()).collect();
+        let mut memory = self.memory;
+        memory[96..100].copy_from_slice(&now.to_le_bytes());
+        let answer = self.listed(&bytes, now, shown.len() * 9, Ok(pages))?;
+        same(&what, &answer, shown.as_flattened())?;
+        same(&format!("the memory after {what}"), &self.memory, &memory)
+    }
+
+    /// A list gets this number and changes nothing.
+    pub fn refuses(&mut self, blocks: &[u8], now: u32, answer_len: usize, number: u32) -> Result<(), String> {
+        let memory = self.memory;
+        let answer = self.listed(blocks, now, answer_len, Err(number))?;
+        same("the answer of a list refused", &answer, &vec![0xCC; answer_len])?;
+        same("the memory after a list refused", &self.memory, &memory)
+    }
+
+    /// What a list with this outcome answers; the disk stays as it is.
+    fn listed(&mut self, blocks: &[u8], now: u32, len: usize, right: Result<u32, u32>) -> Result<Vec<u8>, String> {
+        let disk = self.disk.clone();
+        let mut answer = vec![0xCC; len];
+        let got = archive::states(&mut self.memory, &self.disk, blocks, now, &mut answer);
+        let what = format!("a list of {} bytes at {now}", blocks.len());
+        numbered(&format!("{what}, in the low half,"), got as u32, archive::outcome(right) as u32)?;
+        numbered(&format!("{what}, in the high half,"), (got >> 32) as u32, right.unwrap_or(0))?;
+        same(&format!("the disk after {what}"), &self.disk, &disk)?;
+        Ok(answer)
+    }
 }
 
 /// A call answered this number, in all of its 32 bits.

@@ -1,6 +1,7 @@
-//! The archive's controller and the host's, kept in step: each command goes to both, and then the
-//! numbers, every byte of the five buffers and the canaries around them are compared.
+//! The archive's controller and the host's, kept in step: each command and each list goes to both, and
+//! then the numbers, every byte of the five buffers and the canaries around them are compared.
 use super::call::{Call, GROUP, MEMORY};
+use super::lists::List;
 use super::room::Room;
 use super::table::Table;
 use crate::controller::OwnDigest;
@@ -17,9 +18,14 @@ struct Side {
 
 impl Side {
     fn prepare(&mut self, call: &Call, index: usize) {
-        self.data.put(&call.data, index % 7);
         self.proof.put(&call.proof, index % 5);
-        self.answer.fill(call.answer_len, index as u8 | 1, index % 3);
+        self.prepare_list(&call.data, call.answer_len, index);
+    }
+
+    /// A list lies where other commands have their data.
+    fn prepare_list(&mut self, blocks: &[u8], answer_len: usize, index: usize) {
+        self.data.put(blocks, index % 7);
+        self.answer.fill(answer_len, index as u8 | 1, index % 3);
     }
 }
 
@@ -27,7 +33,7 @@ impl Side {
 pub struct Pair {
     archive: Side,
     own: Side,
-    /// How many commands and formattings there were.
+    /// How many commands, lists and formattings there were.
     pub index: usize,
     pub table: Table,
 }
@@ -99,6 +105,33 @@ impl Pair {
         Err(format!("{}: both answered {got} instead of {number}", self.describe(call)))
     }
 
+    /// A list's pages read, or the number of the question that said no.
+    pub fn list(&mut self, list: &List) -> Result<Result<u32, u32>, String> {
+        self.index += 1;
+        let memory_len = list.memory_len.unwrap_or(self.memory().len());
+        let disk_len = list.disk_len.unwrap_or(self.disk().len());
+        self.archive.prepare_list(&list.blocks, list.answer_len, self.index);
+        self.own.prepare_list(&list.blocks, list.answer_len, self.index);
+        let Side { memory, disk, data, answer, .. } = &mut self.archive;
+        let (memory, disk) = (memory.view_mut(memory_len), disk.view_mut(disk_len));
+        let got = archive::states(memory, disk, data.part(), list.now, answer.part_mut());
+        let Side { memory, disk, data, answer, .. } = &mut self.own;
+        let (memory, disk) = (memory.view_mut(memory_len), disk.view_mut(disk_len));
+        let listed = controller::states(memory, disk, data.part(), list.now, answer.part_mut());
+        self.compare_list(got, archive::outcome(listed)).map_err(|e| format!("{}, {e}", self.describe_list(list)))?;
+        self.table.list(listed.err().unwrap_or(0));
+        Ok(listed)
+    }
+
+    /// A list that is to have read so many pages, or to get this number.
+    pub fn expect_list(&mut self, list: &List, right: Result<u32, u32>) -> Result<(), String> {
+        let listed = self.list(list)?;
+        if listed == right {
+            return Ok(());
+        }
+        Err(format!("{}: both answered {listed:?} instead of {right:?}", self.describe_list(list)))
+    }
+
     pub fn expect_format(&mut self, groups: u32, salt: &[u8], number: u32) -> Result<(), String> {
         self.index += 1;
         self.archive.data.put(salt, self.index % 7);
@@ -119,6 +152,18 @@ impl Pair {
         if got != number {
             return Err(format!("answered {got} instead of {number}"));
         }
+        self.compare_bytes(number)
+    }
+
+    fn compare_list(&self, got: u64, right: u64) -> Result<(), String> {
+        if got != right {
+            let [got, right] = [got, right].map(|both| format!("{} and {} pages", both as u32, both >> 32));
+            return Err(format!("answered {got} instead of {right}"));
+        }
+        self.compare_bytes(right as u32)
+    }
+
+    fn compare_bytes(&self, number: u32) -> Result<(), String> {
         let (a, b) = (&self.archive, &self.own);
         let rooms = [
             ("memory", &a.memory, &b.memory),
@@ -145,5 +190,16 @@ impl Pair {
             call.answer_len,
         ];
         format!("command {}, kind {kind} block {block} now {now} value {value} lengths {lengths:?}", self.index)
+    }
+
+    fn describe_list(&self, list: &List) -> String {
+        let lengths = [
+            list.memory_len.unwrap_or(self.memory().len()),
+            list.disk_len.unwrap_or(self.disk().len()),
+            list.blocks.len(),
+            list.answer_len,
+        ];
+        let numbers: Vec<u32> = list.numbers().take(64).collect();
+        format!("command {}, list {numbers:?} now {} lengths {lengths:?}", self.index, list.now)
     }
 }

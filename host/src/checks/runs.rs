@@ -1,4 +1,4 @@
-//! Random runs: boxes of 1 to 16 groups, mostly of few, each with a long list of commands.
+//! Random runs: boxes of 1 to 16 groups, mostly of few, each with a long run of commands and lists.
 use super::call::{put_number, GROUP, LATEST, MEMORY};
 use super::pair::Pair;
 use super::server::Server;
@@ -21,7 +21,7 @@ pub fn check(pair: &mut Pair, seed: u64, count: usize) -> Checked {
         sent += run;
         boxes += 1;
     }
-    Ok(format!("runs: {sent} commands to {boxes} boxes"))
+    Ok(format!("runs: {sent} commands and lists to {boxes} boxes"))
 }
 
 /// A formatted box. In some the last time or the counts are near their end, or the pages have

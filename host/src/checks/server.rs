@@ -1,5 +1,8 @@
-//! A server that sends commands to one box at random: most are good, with the pages that it keeps
-//! and a time that moves on, and some are spoiled.
+//! A server that sends commands to one box at random, and lists: most are good, with the pages that
+//! it keeps and a time that moves on, and some are spoiled.
+mod lists;
+pub use lists::numbers;
+
 use super::call::{last_time, number, page, proof, Call, LATEST, UNKNOWN};
 use super::pair::Pair;
 use super::room::GUARD;
@@ -9,6 +12,8 @@ use crate::random::Random;
 const WEIGHTS: [usize; 10] = [9, 12, 7, 24, 16, 18, 5, 4, 2, 3];
 const LIMITS: [u32; 8] = [0, 1, LATEST - 1, LATEST, LATEST + 1, LATEST + 2, u32::MAX - 1, u32::MAX];
 const KEPT: usize = 24;
+/// One step in so many sends a list.
+const LIST_EVERY: usize = 12;
 
 pub struct Server<'a> {
     pair: &'a mut Pair,
@@ -27,21 +32,29 @@ impl<'a> Server<'a> {
     }
 
     pub fn step(&mut self) -> Result<(), String> {
+        if self.random.below(LIST_EVERY) == 0 {
+            return self.send_list();
+        }
         let mut call = self.good();
         let mut poked = None;
         for _ in 0..[0, 0, 0, 0, 0, 0, 1, 1, 2, 3][self.random.below(10)] {
             poked = self.spoil(&mut call).or(poked);
         }
-        if let Some((at, bit)) = poked {
-            self.pair.change_memory(|memory| memory[at] ^= bit);
-        }
+        self.poke(poked);
         let answered = self.pair.command(&call)?;
         if answered == 0 {
             self.keep(&call);
-        } else if let Some((at, bit)) = poked {
-            self.pair.change_memory(|memory| memory[at] ^= bit);
+        } else {
+            self.poke(poked);
         }
         Ok(())
+    }
+
+    /// Flips a bit of the memory, or flips it back.
+    fn poke(&mut self, poked: Option<(usize, u8)>) {
+        if let Some((at, bit)) = poked {
+            self.pair.change_memory(|memory| memory[at] ^= bit);
+        }
     }
 
     /// Takes note of an accepted command.

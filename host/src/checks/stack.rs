@@ -12,21 +12,23 @@ const PAINT: u8 = 0xC5;
 pub fn check() -> Checked {
     let mut paint = vec![PAINT; PAINTED];
     let mut answer = [0; 544];
+    let mut shown = [0; 576];
     let mut most = 0;
     for (kind, held) in (1..=10).flat_map(|kind| HELD.map(|held| (kind, held))) {
         let Situation { mut memory, mut disk, call } = situation(kind, held, Questions::NONE, 0);
         let (block, now, value, data, proof) = (call.block, call.now, call.value, &call.data, &call.proof);
-        let mut numbers = [9; 3];
+        let mut numbers = [9; 4];
         let used = used(&mut paint, &mut || {
             numbers[0] = archive::command(&mut memory, &mut disk, kind, block, now, value, data, proof, &mut answer);
-            numbers[1] = archive::format(&mut memory, &mut disk, 2, &answer[..32]);
-            numbers[2] = archive::digest(&disk[..65_536], &mut answer[..32]);
+            numbers[1] = archive::states(&mut memory, &disk, &[0; 256], now, &mut shown) as u32;
+            numbers[2] = archive::format(&mut memory, &mut disk, 2, &answer[..32]);
+            numbers[3] = archive::digest(&disk[..65_536], &mut answer[..32]);
         });
-        if numbers != [0; 3] {
-            return Err(format!("stack: kind {kind}, formatting and the digest answered {numbers:?}"));
+        if numbers != [0; 4] {
+            return Err(format!("stack: kind {kind}, a list, formatting and the digest answered {numbers:?}"));
         }
         if used > MOST {
-            return Err(format!("stack: kind {kind}, formatting and the digest needed {used} bytes"));
+            return Err(format!("stack: kind {kind}, a list, formatting and the digest needed {used} bytes"));
         }
         most = most.max(used);
     }

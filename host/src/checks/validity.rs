@@ -1,5 +1,6 @@
 //! Each clause of a memory's validity, broken on its own, and met at its limits.
 use super::call::{put_number, Call, LATEST, UNKNOWN};
+use super::lists::List;
 use super::pair::Pair;
 use super::situation::{situation, Questions, NOW};
 use super::Checked;
@@ -54,7 +55,8 @@ pub fn check(pair: &mut Pair) -> Checked {
 }
 
 /// The memory takes the change. Where it stays valid it gets a sync, a restart and an identify;
-/// where not, every kind, or one of them if the place is one of the many of the held page.
+/// where not, every kind, or one of them if the place is one of the many of the held page. A list
+/// goes to each such box as well.
 fn one(pair: &mut Pair, held: u8, (at, size, number, valid): Change) -> Result<(), String> {
     let kinds = match valid {
         true => vec![7, 8, 10],
@@ -70,6 +72,8 @@ fn one(pair: &mut Pair, held: u8, (at, size, number, valid): Change) -> Result<(
         made.call.now = if valid { LATEST } else { NOW };
         pair.load(&made.memory, &made.disk);
         pair.expect(&made.call, if valid { 0 } else { 1 })?;
+        pair.load(&made.memory, &made.disk);
+        pair.expect_list(&List::new(&[70], made.call.now), if valid { Ok(1) } else { Err(1) })?;
     }
     Ok(())
 }
@@ -102,8 +106,9 @@ fn numbers_of_groups(pair: &mut Pair) -> Result<(), String> {
     Ok(())
 }
 
-/// An identify to the box.
+/// An identify and a list to the box.
 fn sent(pair: &mut Pair, memory: &[u8], disk: &[u8], valid: bool) -> Result<(), String> {
     pair.load(memory, disk);
-    pair.expect(&Call::new(10, 0, 0, 0), if valid { 0 } else { 1 })
+    pair.expect(&Call::new(10, 0, 0, 0), if valid { 0 } else { 1 })?;
+    pair.expect_list(&List::new(&[0], 0), if valid { Ok(1) } else { Err(1) })
 }
