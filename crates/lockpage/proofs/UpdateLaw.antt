@@ -1,10 +1,10 @@
 -- Laws of what an update stores: its limit, its stamp, its expiry, that it fits. Assumes nothing.
-use mathlib.Core.Path.{_≡_, refl}
+use mathlib.Core.Path.{_≡_, refl, sym, _∙_}
 use mathlib.Core.Bool.{Bool, true, false, false≢true}
-use Prim.Native.Nat.{ℕ, _+_, _≤_, _<_, _^_}
+use Prim.Native.Nat.{ℕ, zero, suc, _+_, _≤_, _<_, _^_}
 use native.Mathlib.Omega.{arith}
-use borrow.Author.Tests.{leb-true}
-use lib.Dec.{leb}
+use borrow.Author.Tests.{leb-true, le-leb}
+use lib.Dec.{leb, lit≤}
 use Rattle.lockpage.specs.declared.Entry.{Entry}
 use Rattle.lockpage.specs.declared.State.{State}
 use Rattle.lockpage.specs.declared.State.the-variants.{Free, Frozen, Counting}
@@ -13,14 +13,33 @@ use Rattle.lockpage.specs.declared.Update.the-variants.{Write, Unfreeze,
 use Rattle.lockpage.specs.Size.{wordSize}
 use Rattle.lockpage.specs.Entry.{EntryFits, timeOfWrite, flag, frozenFlag, unfrozenFlag, isFrozen}
 use Rattle.lockpage.specs.Update.{latestTime, longestLock, latestExpiry, expiryAt, updated, allowed, wordLimit, withinLimit}
-use Rattle.lockpage.proofs.EntryLaw.{flag-stampOf, timeOfWrite-stampOf}
+use Rattle.lockpage.proofs.EntryLaw.{flag-stampOf, timeOfWrite-stampOf, frozen-no}
 
 -- ---- the expiry
 
--- a lock is held for its full length
-pub expiry-reaches : (now lock : ℕ) → now + lock ≤ expiryAt now lock
+pub expiry-none : (now lock : ℕ) → lock ≡ 0 → expiryAt now lock ≡ now
 unfolding expiryAt
-expiry-reaches now lock = omega arith
+expiry-none now zero h = refl
+expiry-none now (suc lock) h = absurd (omega arith)
+
+pub expiry-some : (now lock : ℕ) → 1 ≤ lock → expiryAt now lock ≡ now + lock + 1
+unfolding expiryAt
+expiry-some now zero h = absurd (omega arith)
+expiry-some now (suc lock) h = refl
+
+-- unfrozen later, it ends no earlier
+pub expiry-later : (first second lock : ℕ) → first ≤ second → expiryAt first lock ≤ expiryAt second lock
+unfolding expiryAt
+expiry-later first second zero h = h
+expiry-later first second (suc lock) h = omega arith
+
+-- nor under a longer lock
+pub expiry-longer : (now short long : ℕ) → short ≤ long → expiryAt now short ≤ expiryAt now long
+unfolding expiryAt
+expiry-longer now zero zero h = omega arith
+expiry-longer now zero (suc long) h = omega arith
+expiry-longer now (suc short) zero h = absurd (omega arith)
+expiry-longer now (suc short) (suc long) h = omega arith
 
 -- ---- the limit
 
@@ -74,6 +93,19 @@ unfrozen-flag now e = flag-stampOf (timeOfWrite e) unfrozenFlag (omega arith)
 pub unfrozen-time : (now : ℕ) (e : Entry) → timeOfWrite (updated Unfreeze now e) ≡ timeOfWrite e
 unfolding updated
 unfrozen-time now e = timeOfWrite-stampOf (expiryAt now (e .word)) (timeOfWrite e) unfrozenFlag (omega arith)
+
+-- under a lock of 1 or more it counts through the second now + lock
+pub unfrozen-some : (now : ℕ) (e : Entry) → 1 ≤ e .word → updated Unfreeze now e .word ≡ now + e .word + 1
+unfrozen-some now e h = unfrozen-word now e ∙ expiry-some now (e .word) h
+
+-- an unfreeze of a lock within its limit is within its own
+pub unfrozen-within : (now : ℕ) (e : Entry) → now ≤ latestTime → e .word ≤ longestLock → withinLimit (updated Unfreeze now e) ≡ true
+unfrozen-within now e early short =
+    let longest = expiry-longer now (e .word) longestLock short in
+    let latest = expiry-later now latestTime longestLock early in
+    let most = expiry-some latestTime longestLock (lit≤ tt) in
+    sym (within-expiry (updated Unfreeze now e) (frozen-no (updated Unfreeze now e .stamp) (unfrozen-flag now e)))
+    ∙ le-leb (updated Unfreeze now e .word) latestExpiry (omega (arith, unfrozen-word now e, longest, latest, most))
 
 -- an increment
 pub grown-word : (value now : ℕ) (e : Entry) → updated (Increment value) now e .word ≡ e .word + value

@@ -9,11 +9,12 @@ use Rattle.octets.specs.Part.{AreBytes}
 use Rattle.lockpage.specs.declared.Entry.{Entry}
 use Rattle.lockpage.specs.declared.State.the-variants.{Free, Frozen, Counting}
 use Rattle.lockpage.specs.declared.Update.{Update}
+use Rattle.lockpage.specs.declared.Update.the-variants.{Unfreeze}
 use Rattle.lockpage.specs.Geometry.{Geometry, base}
 use Rattle.lockpage.specs.Size.{entrySize, pageSize, blockSize}
 use Rattle.lockpage.specs.Entry.{entryBytes, entryOf, EntryFits, flag, frozenFlag, unfrozenFlag}
 use Rattle.lockpage.specs.State.{state, timeLeft}
-use Rattle.lockpage.specs.Update.{latestTime, updated, withinLimit}
+use Rattle.lockpage.specs.Update.{latestTime, longestLock, latestExpiry, expiryAt, updated, withinLimit}
 use Rattle.lockpage.specs.Page.{entryAt, blankEntry, blankPage}
 
 -- document 01's sizes: "A block is 512 bytes"; "A page has 64 entries of 8 bytes"
@@ -47,6 +48,21 @@ StateOfEntry = (now : ℕ) (e : Entry) → States now e
 unfoldable pub UpdateFits : Type 0
 UpdateFits = (u : Update) (now : ℕ) (e : Entry) → now ≤ latestTime → EntryFits e → withinLimit (updated u now e) ≡ true
     → EntryFits (updated u now e)
+
+-- document 02, Q-2: "A lock of 1 or more gets the expiry now + lock + 1; a lock of 0 stays now." An entry e unfrozen at time t counts through
+-- the whole second t + lock and is free from the next on; under a lock of 0 it is free at once
+pub record Unfrozen (t : ℕ) (e : Entry) : Type 0 where
+  pub counts : 1 ≤ e .word → (now : ℕ) → now ≤ t + e .word → state now (updated Unfreeze t e) ≡ Counting
+  pub ends : 1 ≤ e .word → (now : ℕ) → t + e .word + 1 ≤ now → state now (updated Unfreeze t e) ≡ Free
+  pub at-once : e .word ≡ 0 → (now : ℕ) → t ≤ now → state now (updated Unfreeze t e) ≡ Free
+
+unfoldable pub StateOfUnfrozen : Type 0
+StateOfUnfrozen = (t : ℕ) (e : Entry) → Unfrozen t e
+
+-- the limit of an expiry is what the longest lock gets at the latest time: no unfreeze of a lock within its limit is beyond it
+pub record LargestUnfreeze : Type 0 where
+  pub expiry : expiryAt latestTime longestLock ≡ latestExpiry
+  pub within : (now : ℕ) (e : Entry) → now ≤ latestTime → e .word ≤ longestLock → withinLimit (updated Unfreeze now e) ≡ true
 
 -- the blank page is a page of blank entries, "00 00 00 00 01 00 00 00", and a block with such an entry is free at every time
 pub record Blank (γ : Geometry) : Type 0 where

@@ -1,6 +1,6 @@
 -- What a write, an unfreeze and an increment do to an entry, in which states they may, and how large a word they may store, after
--- document 01, "Commands", kinds 4 to 6, and "Questions", 9 and 10. Assumes nothing: these are definitions.
-use Prim.Native.Nat.{ℕ, _+_}
+-- document 01, "Commands", kinds 4 to 6, and "Questions", 9 and 10, and document 02, Q-2. Assumes nothing: these are definitions.
+use Prim.Native.Nat.{ℕ, zero, suc, _+_}
 use mathlib.Core.Bool.{Bool, true, false}
 use lib.Dec.{leb}
 use Rattle.lockpage.specs.declared.Entry.{Entry}
@@ -16,21 +16,23 @@ use Rattle.lockpage.specs.Entry.{entry, stampOf, timeOfWrite, frozenFlag
 abbrev pub latestTime : ℕ
 latestTime = 2147483647
 
--- question 10: "a lock written or grown at most 2,147,483,647, an expiry at most 4,294,967,294"
+-- question 10: "a lock written or grown at most 2,147,483,647"
 abbrev pub longestLock : ℕ
 longestLock = 2147483647
 
+-- document 02, Q-2: "The expiry limit in question 10 becomes 4,294,967,295."
 abbrev pub latestExpiry : ℕ
-latestExpiry = 4294967294
+latestExpiry = 4294967295
 
 -- ---- what is stored
 
--- "word = now + lock"
+-- document 02, Q-2: "A lock of 1 or more gets the expiry now + lock + 1; a lock of 0 stays now."
 unfoldable pub expiryAt : ℕ → ℕ → ℕ
-expiryAt now lock = now + lock
+expiryAt now zero = now
+expiryAt now (suc lock) = now + suc lock + 1
 
--- a write: "Word = lock, stamp = 2 × now". An unfreeze: "word = now + lock, f = 1"; the time of write stays,
--- as the edge value D1 07 has it. An increment: "word + value".
+-- a write: "Word = lock, stamp = 2 × now". An unfreeze: the word is the expiry, "f = 1"; the time of write stays, as the edge value
+-- D1 07 has it. An increment: "word + value".
 unfoldable pub updated : Update → ℕ → Entry → Entry
 updated (Write lock) now e = entry lock (stampOf now frozenFlag)
 updated Unfreeze now e = entry (expiryAt now (e .word)) (stampOf (timeOfWrite e) unfrozenFlag)

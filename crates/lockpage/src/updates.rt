@@ -12,7 +12,7 @@ pub const LATEST_TIME: u32 = 2147483647;
 
 const LONGEST_LOCK: u64 = 2147483647;
 
-const LATEST_EXPIRY: u64 = 4294967294;
+const LATEST_EXPIRY: u64 = 4294967295;
 
 // Whether the update may be made in the state.
 pub fn allowed(u: Update, s: State) -> bool
@@ -37,11 +37,15 @@ pub fn allowed(u: Update, s: State) -> bool
     }
 }
 
-// The expiry of a lock that starts to count at a time; it may be too large for a word.
+// The expiry of a lock that starts to count at a time: a lock of 1 or more is held for its full seconds after the one in which it starts.
+// It may be too large for a word.
 fn expiry_at(time: u32, lock: u32) -> u64
     ensures { λ r. ⌜ r ≡ expiryAt time lock ⌝ }
 {
-    time as u64 + lock as u64
+    if lock == 0 {
+        return time as u64;
+    }
+    time as u64 + lock as u64 + 1
 }
 
 // The word that the update stores, which may be too large too.

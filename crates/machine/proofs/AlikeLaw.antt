@@ -3,7 +3,7 @@ use mathlib.Core.Path.{_≡_, refl, sym, subst, _∙_}
 use mathlib.Core.Bool.{Bool, true, false, false≢true}
 use mathlib.Core.Logic.{inl, inr}
 use mathlib.Core.List.{List, [], _∷_, _++_}
-use Prim.Native.Nat.{ℕ, suc, _+_, _≤_, _<_}
+use Prim.Native.Nat.{ℕ, suc, _≤_, _<_}
 use native.Mathlib.Omega.{arith}
 use Rattle.octets.specs.Part.{AreBytes}
 use Rattle.lockpage.specs.Geometry.{Geometry, Proper}
@@ -17,8 +17,8 @@ use Rattle.memory.specs.Memory.{lastTime, held, none}
 use Rattle.machine.specs.Command.{Box, Command, kindOf}
 use Rattle.machine.specs.Step.{step, Accepted}
 use Rattle.machine.specs.Run.{Event, Given, Queried, after, run, Throughout}
-use Rattle.machine.specs.Protection.{Unforged, NotUnfrozen, CommandShows, Shows, startContent, startEntry, Protected, FrozenUnder, CountingTo}
-use Rattle.machine.specs.Protection.{NeverUnfrozen, ShowsStart, ShownIn, SeenAlike}
+use Rattle.machine.specs.Protection.{Unforged, NotUnfrozen, CommandShows, Shows, startContent, startEntry, earliestExpiry, Protected, FrozenUnder}
+use Rattle.machine.specs.Protection.{CountingTo, NeverUnfrozen, ShowsStart, ShownIn, SeenAlike}
 use Rattle.machine.proofs.KindLaw.{unfreeze-number}
 use Rattle.machine.proofs.QuestionLaw.{all-yes}
 use Rattle.machine.proofs.StepLaw.{step-number, accepts}
@@ -98,7 +98,7 @@ module _ {γ : Geometry} (σ : Proper γ) where
     module _ (xs ys : List Event) where
       -- the three cases put together
       together : (s : Box) (es : List Event)
-          → (flag (startEntry γ s₀ b .stamp) ≡ frozenFlag → Throughout γ (In (λ t. t < lastTime γ (s₀ .memory) + startEntry γ s₀ b .word)) s es)
+          → (flag (startEntry γ s₀ b .stamp) ≡ frozenFlag → Throughout γ (In (λ t. t < earliestExpiry γ s₀ b)) s es)
           → (flag (startEntry γ s₀ b .stamp) ≡ unfrozenFlag → Throughout γ (In (λ t. t < startEntry γ s₀ b .word)) s es)
           → (flag (startEntry γ s₀ b .stamp) ≡ frozenFlag → Throughout γ (NotUnfrozen γ b) s₀ xs → Throughout γ (NotUnfrozen γ b) s₀ ys
           → Throughout γ (In (λ t. t < suc latestTime)) s es)
@@ -110,8 +110,8 @@ module _ {γ : Geometry} (σ : Proper γ) where
       )
         where
           bounded : timeOf e ≤ latestTime → Protected γ s₀ b xs ys (timeOf e) → (bound : ℕ) × (timeOf e < bound) × In (λ t. t < bound) s e
-          bounded early (FrozenUnder x l) = (lastTime γ (s₀ .memory) + startEntry γ s₀ b .word, l, f x .0)
-          bounded early (CountingTo x above l) = (startEntry γ s₀ b .word, l, g x .0)
+          bounded early (FrozenUnder x l) = (earliestExpiry γ s₀ b, omega arith, f x .0)
+          bounded early (CountingTo x above l) = (startEntry γ s₀ b .word, omega arith, g x .0)
           bounded early (NeverUnfrozen x y z) = (suc latestTime, omega arith, h x y z .0)
 
       throughout : (es : List Event) → Throughout γ (Unforged γ) s₀ es
@@ -120,7 +120,7 @@ module _ {γ : Geometry} (σ : Proper γ) where
       unfolding watch
       throughout es u never =
           together s₀ es
-          (λ f. before (lastTime γ (s₀ .memory) + startEntry γ s₀ b .word) false (inl (f, inl (omega arith))) es u (λ x. absurd (false≢true x)))
+          (λ f. before (earliestExpiry γ s₀ b) false (inl (f, inl (omega arith))) es u (λ x. absurd (false≢true x)))
           (λ f. before (startEntry γ s₀ b .word) false (inr (f, omega arith)) es u (λ x. absurd (false≢true x)))
           (λ f x y. before (suc latestTime) true (inl (f, inr refl)) es u (λ t. never x y))
 

@@ -1,19 +1,23 @@
--- The starred edge values: computed, but for the two locks, which are shown of every write. Assumes nothing.
+-- The starred edge values: computed, but for the expiry, which is shown of every time of write, and the two locks, of every write. Assumes
+-- nothing.
 use mathlib.Core.Path.{_≡_, refl, ap, sym, subst, _∙_}
-use mathlib.Core.Bool.{Bool, true}
+use mathlib.Core.Bool.{Bool, true, false}
 use mathlib.Core.List.{[], _∷_}
 use Prim.Native.Nat.{ℕ}
-use lib.Dec.{leb}
+use lib.Dec.{leb, lit<, lit≤}
+use lib.IntN.{ℤ}
 use Rattle.octets.specs.Number.{bytes}
+use Rattle.octets.specs.Signed.{twos}
 use Rattle.lockpage.specs.Geometry.{base}
 use Rattle.lockpage.specs.declared.Entry.{Entry}
 use Rattle.lockpage.specs.declared.State.{State}
 use Rattle.lockpage.specs.declared.Update.the-variants.{Write}
-use Rattle.lockpage.specs.Entry.{entryBytes, timeOfWrite, flag, isFrozen}
-use Rattle.lockpage.specs.State.{state, timeLeft, timeLeftBytes}
+use Rattle.lockpage.specs.Entry.{entryBytes, stampOf, timeOfWrite, flag, unfrozenFlag, isFrozen}
+use Rattle.lockpage.specs.State.{state, timeLeftSize, timeLeftBytes}
 use Rattle.lockpage.specs.Update.{longestLock, expiryAt, updated, allowed, withinLimit}
 use Rattle.lockpage.proofs.GeometryLaw.{base-proper}
-use Rattle.lockpage.proofs.EntryLaw.{frozen-yes}
+use Rattle.lockpage.proofs.EntryLaw.{flag-stampOf, frozen-yes, frozen-no}
+use Rattle.lockpage.proofs.StateLaw.{state-counting, state-free, left-ahead, left-past}
 use Rattle.lockpage.proofs.UpdateLaw.{within-lock, written-word, written-flag, allowed-write}
 use Rattle.addressing.specs.Map.{physical, pageBlock}
 use Rattle.machine.specs.declared.Kind.{Kind}
@@ -21,7 +25,7 @@ use Rattle.machine.specs.declared.Kind.the-variants.{Change}
 use Rattle.machine.specs.Command.{Box, Command, broughtEntry}
 use Rattle.machine.specs.Question.{Put, NotPut, question10, questionsTo, questions, firstNo, refusal, AllYes}
 use Rattle.machine.specs.Step.{step, Accepted}
-use Rattle.machine.specs.EdgeValues.{EdgeValues, locking}
+use Rattle.machine.specs.EdgeValues.{EdgeValues, expiring, locking}
 use Rattle.machine.proofs.KindLaw.{write-kind}
 use Rattle.machine.proofs.QuestionLaw.{passes-on, all-yes, toNinth}
 use Rattle.machine.proofs.StepLaw.{step-number, accepts}
@@ -75,8 +79,12 @@ module _ (s : Box) (c : Command) (k : c .kind ≡ 4) (a : Accepted base s (locki
       ∙ passes-on (toNinth base u s d) (question10 base (Change u) (c .now) (broughtEntry base c) ∷ NotPut ∷ []) (nine lock)
       ∙ ap (λ (b : Bool). firstNo (Put 10 b ∷ NotPut ∷ [])) (lock-within lock (c .now) (broughtEntry base c))
 
+-- an entry with expiry 1700 is not frozen
+not-frozen : (time : ℕ) → isFrozen (stampOf time unfrozenFlag) ≡ false
+not-frozen time = frozen-no (stampOf time unfrozenFlag) (flag-stampOf time unfrozenFlag (lit< tt))
+
 pub edge-values : EdgeValues
-unfolding physical pageBlock bytes entryBytes timeOfWrite flag isFrozen state timeLeft timeLeftBytes expiryAt updated firstNo
+unfolding physical pageBlock bytes entryBytes timeOfWrite flag isFrozen state timeLeftBytes expiryAt updated firstNo
 edge-values =
     record {
       block-63 = refl;
@@ -86,11 +94,11 @@ edge-values =
       written-bytes = refl;
       unfrozen-bytes = refl;
       grown-word = refl;
-      before-left = refl;
-      before-state = refl;
-      reached-left = refl;
-      reached-state = refl;
-      past-left = refl;
+      before-left = λ time. left-ahead 1650 (expiring time) (not-frozen time) (lit≤ tt);
+      before-state = λ time. state-counting 1650 (expiring time) (not-frozen time) (lit< tt);
+      reached-left = λ time. left-ahead 1700 (expiring time) (not-frozen time) (lit≤ tt);
+      reached-state = λ time. state-free 1700 (expiring time) (not-frozen time) (lit≤ tt);
+      past-left = λ time. ap (λ (z : ℤ). bytes timeLeftSize (twos z)) (left-past 1750 (expiring time) (not-frozen time) 49 refl);
       unlocked-state = refl;
       longest-lock = λ s c k a. tenth s c k a 2147483647;
       longer-lock = λ s c k a. tenth s c k a 2147483648;

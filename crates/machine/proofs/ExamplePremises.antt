@@ -13,9 +13,11 @@ use Rattle.lockpage.specs.declared.Entry.{Entry as PageEntry}
 use Rattle.lockpage.specs.Entry.{flag, frozenFlag}
 use Rattle.lockpage.specs.Page.{blankEntry}
 use Rattle.lockpage.proofs.GeometryLaw.{base-proper}
+use Rattle.lockpage.proofs.UpdateLaw.{expiry-some}
 use Rattle.addressing.specs.Map.{diskSize, groupOf, placeOf, physical}
 use Rattle.disk.specs.Disk.{block}
 use Rattle.memory.specs.Layout.{memorySize, saltSize}
+use Rattle.memory.specs.Memory.{lastTime}
 use Rattle.machine.specs.declared.Kind.the-variants.{Read, Entry, Sync, Restart}
 use Rattle.machine.specs.Command.{Box, Command, kindNumbered, answerSize}
 use Rattle.machine.specs.Tag.{currentPage}
@@ -83,7 +85,7 @@ unforged-events = (
         λ y. absurd (no-seventh base-proper Restart listedBox restarting refl refl y),
         (
           λ y. absurd (no-seventh base-proper Read restartedBox readingBack refl refl y),
-          (not-forged known-read 5 1400 0 [], (not-forged known-counting 4 1900 0 (repeated (blockSize base) 2), tt)),
+          (not-forged known-read 5 1400 0 [], (not-forged known-counting 4 1901 0 (repeated (blockSize base) 2), tt)),
         ),
       ),
     ),
@@ -125,11 +127,13 @@ start-frozen : flag (startEntry base start 0 .stamp) ≡ frozenFlag
 unfolding groupOf placeOf flag
 start-frozen = ap (λ (e : PageEntry). flag (e .stamp)) (known-start .on-disk .written)
 
--- block 0 is protected before 1000 + 500
-protected-before : (t : ℕ) → t < 1500 → Protected base start 0 events otherEvents t
+-- block 0 is protected up to 1000 + 500
+protected-before : (t : ℕ) → t < 1501 → Protected base start 0 events otherEvents t
 unfolding groupOf placeOf
 protected-before t l =
-    FrozenUnder start-frozen (omega (arith, known-start .last, ap (λ (e : PageEntry). e .word) (known-start .on-disk .written)))
+    let lock = ap (λ (e : PageEntry). e .word) (known-start .on-disk .written) in
+    FrozenUnder start-frozen
+    (omega (arith, known-start .last, lock, expiry-some (lastTime base (start .memory)) (startEntry base start 0 .word) (omega arith)))
 
 other-not-unfrozen : Throughout base (NotUnfrozen base 0) start otherEvents
 other-not-unfrozen = (λ a k b. omega arith, (tt, (λ a k b. omega arith, tt)))
@@ -156,8 +160,8 @@ other-content =
     ∙ accepted-after base-proper start showingOther showing-other-served .content 0
     ∙ start-content
 
--- an accepted command on block 0 before 1500, among the events of a run from the start
-shown-before : {P : List ℕ → Type 0} (earlier later : List Event) (c : Command) → c .block ≡ 0 → c .now < 1500
+-- an accepted command on block 0 up to 1500, among the events of a run from the start
+shown-before : {P : List ℕ → Type 0} (earlier later : List Event) (c : Command) → c .block ≡ 0 → c .now < 1501
     → Accepted base (run base start earlier) c → P (step base (run base start earlier) c .answer)
     → ShowsProtected (c .kind) (earlier ++ (Given c ∷ later)) c P
 shown-before earlier later c b l a p =
@@ -167,8 +171,8 @@ shown-before earlier later c b l a p =
       answers = p;
     }
 
--- a query before 1500, with what is shown for block 0 and for block 1
-listed-before : {time counted holds : ℕ} {e d : PageEntry} (earlier later : List Event) (now : ℕ) → now < 1500
+-- a query up to 1500, with what is shown for block 0 and for block 1
+listed-before : {time counted holds : ℕ} {e d : PageEntry} (earlier later : List Event) (now : ℕ) → now < 1501
     → Known time counted holds e d (run base start earlier) → queryRefusal base (run base start earlier) (asking now) ≡ 0
     → {answer : List ℕ} → shownState now e ++ (shownState now blankEntry ++ shownState now e) ≡ answer
     → ListsProtected (earlier ++ (Queried (asking now) ∷ later)) (asking now) answer

@@ -28,9 +28,9 @@ use Rattle.machine.proofs.ExampleLaw.{OnPage, Known, timed-known}
 
 -- ---- what is shown of three entries, computed
 
--- of one that counts to 1700, and of one whose expiry is 0, at 1275
-pub counting-shown : shownState 1275 (entry 1700 2001) ++ (shownState 1275 blankEntry ++ shownState 1275 (entry 1700 2001))
-    ≡ 2 ∷ 169 ∷ 1 ∷ 0 ∷ 0 ∷ 0 ∷ 0 ∷ 0 ∷ 0 ∷ 0 ∷ 5 ∷ 251 ∷ 255 ∷ 255 ∷ 255 ∷ 255 ∷ 255 ∷ 255 ∷ 2 ∷ 169 ∷ 1 ∷ 0 ∷ 0 ∷ 0 ∷ 0 ∷ 0 ∷ 0 ∷ []
+-- of one that counts to 1701, and of one whose expiry is 0, at 1275
+pub counting-shown : shownState 1275 (entry 1701 2001) ++ (shownState 1275 blankEntry ++ shownState 1275 (entry 1701 2001))
+    ≡ 2 ∷ 170 ∷ 1 ∷ 0 ∷ 0 ∷ 0 ∷ 0 ∷ 0 ∷ 0 ∷ 0 ∷ 5 ∷ 251 ∷ 255 ∷ 255 ∷ 255 ∷ 255 ∷ 255 ∷ 255 ∷ 2 ∷ 170 ∷ 1 ∷ 0 ∷ 0 ∷ 0 ∷ 0 ∷ 0 ∷ 0 ∷ []
 unfolding shownState stateNumber timeLeftBytes state bytes isFrozen timeLeft flag
 counting-shown = refl
 

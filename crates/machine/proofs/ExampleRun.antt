@@ -101,7 +101,7 @@ pub unfreezing-served : refusal base start unfreezing ≡ 0
 unfolding kindNumbered timeOfWrite flag isFrozen state expiryAt updated allowed wordLimit withinLimit
 unfreezing-served = served known-start Unfreeze 5 1200 0 [] refl (lit≤ tt) (lit≤ tt) (lit< tt) refl refl refl
 
-pub known-unfrozen : Known 1200 2 0 (entry 1700 2001) (entry 500 2000) unfrozenBox
+pub known-unfrozen : Known 1200 2 0 (entry 1701 2001) (entry 500 2000) unfrozenBox
 unfolding unfrozenBox kindNumbered timeOfWrite expiryAt updated
 known-unfrozen =
     updated-known known-start Unfreeze 5 1200 0 [] refl unfreezing-served (inl refl) (record { word = lit< tt; stamp = lit< tt })
@@ -109,14 +109,14 @@ known-unfrozen =
 pub showing-served : refusal base unfrozenBox showing ≡ 0
 showing-served = entry-served known-unfrozen 1250 (lit≤ tt) (lit≤ tt)
 
-pub known-shown : Known 1250 2 0 (entry 1700 2001) (entry 500 2000) shownBox
+pub known-shown : Known 1250 2 0 (entry 1701 2001) (entry 500 2000) shownBox
 unfolding shownBox
 known-shown = entry-known known-unfrozen 1250 showing-served
 
 pub listing-served : queryRefusal base shownBox listing ≡ 0
 listing-served = asking-served known-shown 1275 (lit≤ tt) (lit≤ tt)
 
-known-listed : Known 1275 2 0 (entry 1700 2001) (entry 500 2000) listedBox
+known-listed : Known 1275 2 0 (entry 1701 2001) (entry 500 2000) listedBox
 unfolding listedBox
 known-listed = asking-known known-shown 1275 listing-served
 
@@ -138,7 +138,7 @@ pub unfreezing-again-served : refusal base readBox unfreezingAgain ≡ 0
 unfolding kindNumbered timeOfWrite flag isFrozen state expiryAt updated allowed wordLimit withinLimit
 unfreezing-again-served = served known-read Unfreeze 5 1400 0 [] refl (lit≤ tt) (lit≤ tt) (lit< tt) refl refl refl
 
-pub known-counting : Known 1400 4 0 (entry 1900 2001) (entry 500 2000) countingBox
+pub known-counting : Known 1400 4 0 (entry 1901 2001) (entry 500 2000) countingBox
 unfolding countingBox kindNumbered timeOfWrite expiryAt updated
 known-counting =
     updated-known known-read Unfreeze 5 1400 0 [] refl unfreezing-again-served (inl refl) (record { word = lit< tt; stamp = lit< tt })
@@ -146,7 +146,7 @@ known-counting =
 pub overwriting-served : refusal base countingBox overwriting ≡ 0
 unfolding kindNumbered timeOfWrite flag isFrozen state expiryAt updated allowed wordLimit withinLimit
 overwriting-served =
-    served known-counting (Write 0) 4 1900 0 (repeated (blockSize base) 2) refl (lit≤ tt) (lit≤ tt) (lit< tt)
+    served known-counting (Write 0) 4 1901 0 (repeated (blockSize base) 2) refl (lit≤ tt) (lit≤ tt) (lit< tt)
     (repeated-length (blockSize base) 2) refl refl
 
 -- ---- and of the other run
@@ -166,4 +166,4 @@ unfolding otherListedBox
 known-other-listed = asking-known known-other 1475 listing-other-served
 
 pub reading-other-served : refusal base otherListedBox readingOther ≡ 0
-reading-other-served = read-served known-other-listed 1499 (lit≤ tt) (lit≤ tt)
+reading-other-served = read-served known-other-listed 1500 (lit≤ tt) (lit≤ tt)

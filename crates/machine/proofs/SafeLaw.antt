@@ -1,16 +1,17 @@
 -- The invariant of demand 3. Assumes nothing.
 --
--- An entry is safe if it has the start's time of write and holds the block until the bound: frozen under a lock that reaches the bound
--- from the start's time on, or frozen in a run that never unfreezes it, or counting to the bound or later. No update that is allowed
--- before the bound makes a safe entry unsafe: a write is not allowed, an unfreeze counts from no earlier than the start, an increment
--- only adds. A box is safe if the content is the start's and the entry is safe both on the disk's page and, where the block's group is
--- held, on the held page: a restart falls back to the disk's, a sync or an eviction puts the held one there. A box is kept if it is
--- safe while its last time is below the bound; from there on nothing is claimed, so nothing is to be shown of a later write.
+-- An entry is safe if it has the start's time of write and holds the block until the bound: frozen under a lock whose expiry, were
+-- it unfrozen at the start's time, is the bound or later, or frozen in a run that never unfreezes it, or counting to the bound or
+-- later. No update that is allowed before the bound makes a safe entry unsafe: a write is not allowed, an unfreeze counts from no
+-- earlier than the start, an increment only adds. A box is safe if the content is the start's and the entry is safe both on the
+-- disk's page and, where the block's group is held, on the held page: a restart falls back to the disk's, a sync or an eviction puts
+-- the held one there. A box is kept if it is safe while its last time is below the bound; from there on nothing is claimed, so
+-- nothing is to be shown of a later write.
 use mathlib.Core.Path.{_≡_, refl, ap, sym, subst, _∙_}
 use mathlib.Core.Bool.{Bool, true}
 use mathlib.Core.Logic.{_⊎_, inl, inr, ⊎-elim}
 use mathlib.Core.List.{List}
-use Prim.Native.Nat.{ℕ, _+_, _≤_, _<_}
+use Prim.Native.Nat.{ℕ, _≤_, _<_}
 use native.Mathlib.Omega.{arith}
 use lib.ListN.{length}
 use Rattle.lockpage.specs.Geometry.{Geometry, Proper}
@@ -21,11 +22,11 @@ use Rattle.lockpage.specs.declared.Update.{Update}
 use Rattle.lockpage.specs.declared.Update.the-variants.{Write, Unfreeze, Increment}
 use Rattle.lockpage.specs.Entry.{EntryFits, timeOfWrite, flag, frozenFlag, unfrozenFlag}
 use Rattle.lockpage.specs.State.{state}
-use Rattle.lockpage.specs.Update.{latestTime, updated, allowed, withinLimit}
+use Rattle.lockpage.specs.Update.{latestTime, expiryAt, updated, allowed, withinLimit}
 use Rattle.lockpage.specs.Page.{entryAt, withEntry}
 use Rattle.lockpage.proofs.StateLaw.{Says, says}
-use Rattle.lockpage.proofs.UpdateLaw.{expiry-reaches, updated-fits, unfrozen-word, unfrozen-flag, unfrozen-time, grown-word, grown-stamp, grown-time}
-use Rattle.lockpage.proofs.UpdateLaw.{allowed-write, allowed-unfreeze}
+use Rattle.lockpage.proofs.UpdateLaw.{expiry-later, expiry-longer, updated-fits, unfrozen-word, unfrozen-flag, unfrozen-time, grown-word, grown-stamp}
+use Rattle.lockpage.proofs.UpdateLaw.{grown-time, allowed-write, allowed-unfreeze}
 use Rattle.lockpage.proofs.PageLaw.{entry-within, entryAt-same, entryAt-other}
 use Rattle.addressing.specs.Map.{diskSize, groupOf, placeOf, physical, pageBlock}
 use Rattle.addressing.proofs.MapLaw.{placeOf-below}
@@ -51,7 +52,7 @@ pub record Watch : Type 0 where
 
 abbrev pub Locked : Watch → Entry → Type 0
 Locked w e =
-    ((flag (e .stamp) ≡ frozenFlag) × ((w .bound ≤ w .start + e .word) ⊎ (w .forever ≡ true)))
+    ((flag (e .stamp) ≡ frozenFlag) × ((w .bound ≤ expiryAt (w .start) (e .word)) ⊎ (w .forever ≡ true)))
     ⊎ ((flag (e .stamp) ≡ unfrozenFlag) × (w .bound ≤ e .word))
 
 pub record Safe (w : Watch) (e : Entry) : Type 0 where
@@ -72,16 +73,17 @@ safe-not-free w e t h l f =
 locked-unfrozen : (w : Watch) (e : Entry) (t : ℕ) → Locked w e → flag (e .stamp) ≡ frozenFlag → w .start ≤ t
     → (w .forever ≡ true → ⊥) → Locked w (updated Unfreeze t e)
 locked-unfrozen w e t h f l n =
-    let long : w .bound ≤ w .start + e .word =
+    let long : w .bound ≤ expiryAt (w .start) (e .word) =
     ⊎-elim (λ x. ⊎-elim (λ y. y) (λ y. absurd (n y)) (x .1)) (λ x. absurd (not-both (e .stamp) f (x .0))) h in
-    inr (unfrozen-flag t e, omega (arith, unfrozen-word t e, expiry-reaches t (e .word)))
+    inr (unfrozen-flag t e, omega (arith, unfrozen-word t e, expiry-later (w .start) t (e .word) l))
 
 locked-grown : (w : Watch) (e : Entry) (value t : ℕ) → Locked w e → Locked w (updated (Increment value) t e)
 locked-grown w e value t h =
     let same : flag (updated (Increment value) t e .stamp) ≡ flag (e .stamp) = ap flag (grown-stamp value t e) in
     let more = grown-word value t e in
+    let reached = expiry-longer (w .start) (e .word) (updated (Increment value) t e .word) (omega arith) in
     ⊎-elim
-    (λ x. inl (same ∙ x .0, ⊎-elim (λ y. inl (omega arith)) (λ y. inr y) (x .1)))
+    (λ x. inl (same ∙ x .0, ⊎-elim (λ y. inl (omega (arith, reached))) (λ y. inr y) (x .1)))
     (λ x. inr (same ∙ x .0, omega (arith, x .1)))
     h
 

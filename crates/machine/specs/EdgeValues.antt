@@ -1,5 +1,5 @@
--- The starred values of document 01, "Edge values". Each row has what the definitions give on the left and what the paper says on the
--- right, bytes in decimal. The one fact is proofs/Theorems.antt, edge-values.
+-- The starred values of document 01, "Edge values", two of them as document 02, Q-2, has them. Each row has what the definitions give on
+-- the left and what the papers say on the right, bytes in decimal. The one fact is proofs/Theorems.antt, edge-values.
 use mathlib.Core.Path.{_≡_}
 use mathlib.Core.List.{[], _∷_}
 use Prim.Native.Nat.{ℕ}
@@ -10,7 +10,7 @@ use Rattle.lockpage.specs.Size.{wordSize}
 use Rattle.lockpage.specs.declared.Entry.{Entry}
 use Rattle.lockpage.specs.declared.State.the-variants.{Free, Counting}
 use Rattle.lockpage.specs.declared.Update.the-variants.{Write, Unfreeze, Increment}
-use Rattle.lockpage.specs.Entry.{entryBytes}
+use Rattle.lockpage.specs.Entry.{entry, entryBytes, stampOf, unfrozenFlag}
 use Rattle.lockpage.specs.State.{state, timeLeft, timeLeftBytes}
 use Rattle.lockpage.specs.Update.{updated}
 use Rattle.lockpage.specs.Page.{blankEntry}
@@ -27,6 +27,10 @@ unfrozenEntry = updated Unfreeze 1200 writtenEntry
 
 abbrev pub grownEntry : Entry
 grownEntry = updated (Increment 100) 1200 unfrozenEntry
+
+-- "Expiry 1700": of an entry with that word, whatever wrote it
+abbrev pub expiring : ℕ → Entry
+expiring time = entry 1700 (stampOf time unfrozenFlag)
 
 -- "Lock 0 unfrozen at 1200"
 abbrev pub unlocked : Entry
@@ -53,18 +57,18 @@ pub record EdgeValues : Type 0 where
   pub page-15 : pageBlock base 15 ≡ 1039
   -- "F4 01 00 00 D0 07 00 00"
   pub written-bytes : entryBytes writtenEntry ≡ 244 ∷ 1 ∷ 0 ∷ 0 ∷ 208 ∷ 7 ∷ 0 ∷ 0 ∷ []
-  -- "A4 06 00 00 D1 07 00 00"
-  pub unfrozen-bytes : entryBytes unfrozenEntry ≡ 164 ∷ 6 ∷ 0 ∷ 0 ∷ 209 ∷ 7 ∷ 0 ∷ 0 ∷ []
-  -- "08 07 00 00": the word
-  pub grown-word : bytes wordSize (grownEntry .word) ≡ 8 ∷ 7 ∷ 0 ∷ 0 ∷ []
+  -- document 02, Q-2: "the case A4 06 becomes A5 06": A5 06 00 00 D1 07 00 00
+  pub unfrozen-bytes : entryBytes unfrozenEntry ≡ 165 ∷ 6 ∷ 0 ∷ 0 ∷ 209 ∷ 7 ∷ 0 ∷ 0 ∷ []
+  -- "and the increment after it 09 07": 09 07 00 00, the word
+  pub grown-word : bytes wordSize (grownEntry .word) ≡ 9 ∷ 7 ∷ 0 ∷ 0 ∷ []
   -- "Expiry 1700: at 1650, 50 left": counting
-  pub before-left : timeLeft 1650 unfrozenEntry ≡ pos 50
-  pub before-state : state 1650 unfrozenEntry ≡ Counting
+  pub before-left : (time : ℕ) → timeLeft 1650 (expiring time) ≡ pos 50
+  pub before-state : (time : ℕ) → state 1650 (expiring time) ≡ Counting
   -- "at 1700, 0 and free"
-  pub reached-left : timeLeft 1700 unfrozenEntry ≡ pos 0
-  pub reached-state : state 1700 unfrozenEntry ≡ Free
+  pub reached-left : (time : ℕ) → timeLeft 1700 (expiring time) ≡ pos 0
+  pub reached-state : (time : ℕ) → state 1700 (expiring time) ≡ Free
   -- "at 1750, CE FF FF FF FF FF FF FF"
-  pub past-left : timeLeftBytes 1750 unfrozenEntry ≡ 206 ∷ 255 ∷ 255 ∷ 255 ∷ 255 ∷ 255 ∷ 255 ∷ 255 ∷ []
+  pub past-left : (time : ℕ) → timeLeftBytes 1750 (expiring time) ≡ 206 ∷ 255 ∷ 255 ∷ 255 ∷ 255 ∷ 255 ∷ 255 ∷ 255 ∷ []
   -- "Lock 0 unfrozen at 1200 is free at 1200."
   pub unlocked-state : state 1200 unlocked ≡ Free
   -- "Lock 2,147,483,647 passes, 2,147,483,648 gets 10": wherever a write with lock 0 passes

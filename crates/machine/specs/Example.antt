@@ -108,9 +108,9 @@ unfreezingAgain = updating readBox 5 1400 0 []
 unfoldable pub countingBox : Box
 countingBox = step base readBox unfreezingAgain .box
 
--- and overwritten at 1900, when the lock has passed
+-- and overwritten at 1901, when the lock has passed
 abbrev pub overwriting : Command
-overwriting = updating countingBox 4 1900 0 (repeated (blockSize base) 2)
+overwriting = updating countingBox 4 1901 0 (repeated (blockSize base) 2)
 
 abbrev pub events : List Event
 events =
@@ -139,9 +139,9 @@ listingOther = asking 1475
 unfoldable pub otherListedBox : Box
 otherListedBox = queryStep base otherBox listingOther .box
 
--- and the block read at 1499, in the last second before T + L
+-- and the block read at 1500, which is T + L
 abbrev pub readingOther : Command
-readingOther = plain 1 1499
+readingOther = plain 1 1500
 
 abbrev pub otherEvents : List Event
 otherEvents = Given showingOther ∷ Queried listingOther ∷ Given readingOther ∷ []
@@ -184,15 +184,15 @@ pub record PremisesMet : Type 0 where
   pub start-entry : startEntry base start 0 ≡ entry 500 (stampOf 1000 frozenFlag)
   pub start-content : startContent base start 0 ≡ repeated (blockSize base) 1
   pub overwritten : block base (run base start events .disk) (physical base 0) ≡ repeated (blockSize base) 2
-  -- before T + L both answer the time of write 1000, the first in the entry of its unfreeze, and both the content
-  pub shown : ShowsProtected 2 events showing (λ answer. entryAt answer 0 ≡ entry 1700 (stampOf 1000 unfrozenFlag))
+  -- up to and including T + L both answer the time of write 1000, the first in the entry of its unfreeze, and both the content
+  pub shown : ShowsProtected 2 events showing (λ answer. entryAt answer 0 ≡ entry 1701 (stampOf 1000 unfrozenFlag))
   pub other-shown : ShowsProtected 2 otherEvents showingOther (λ answer. entryAt answer 0 ≡ entry 500 (stampOf 1000 frozenFlag))
   pub read-back : ShowsProtected 1 events readingBack (λ answer. answer ≡ padded base (repeated (blockSize base) 1))
   pub other-read : ShowsProtected 1 otherEvents readingOther (λ answer. answer ≡ padded base (repeated (blockSize base) 1))
-  -- a query answers for each number the state and the time left: block 0 counts, with 425 seconds left, or is frozen under lock 500;
+  -- a query answers for each number the state and the time left: block 0 counts, with 426 seconds left, or is frozen under lock 500;
   -- block 1 is free, its expiry 0
   pub listed : ListsProtected events listing
-      (2 ∷ 169 ∷ 1 ∷ 0 ∷ 0 ∷ 0 ∷ 0 ∷ 0 ∷ 0 ∷ 0 ∷ 5 ∷ 251 ∷ 255 ∷ 255 ∷ 255 ∷ 255 ∷ 255 ∷ 255 ∷ 2 ∷ 169 ∷ 1 ∷ 0 ∷ 0 ∷ 0 ∷ 0 ∷ 0 ∷ 0 ∷ [])
+      (2 ∷ 170 ∷ 1 ∷ 0 ∷ 0 ∷ 0 ∷ 0 ∷ 0 ∷ 0 ∷ 0 ∷ 5 ∷ 251 ∷ 255 ∷ 255 ∷ 255 ∷ 255 ∷ 255 ∷ 255 ∷ 2 ∷ 170 ∷ 1 ∷ 0 ∷ 0 ∷ 0 ∷ 0 ∷ 0 ∷ 0 ∷ [])
   pub other-listed : ListsProtected otherEvents listingOther
       (1 ∷ 244 ∷ 1 ∷ 0 ∷ 0 ∷ 0 ∷ 0 ∷ 0 ∷ 0 ∷ 0 ∷ 61 ∷ 250 ∷ 255 ∷ 255 ∷ 255 ∷ 255 ∷ 255 ∷ 255 ∷ 1 ∷ 244 ∷ 1 ∷ 0 ∷ 0 ∷ 0 ∷ 0 ∷ 0 ∷ 0 ∷ [])
   -- and the other run does not unfreeze it: were both as it is, the block would be protected to the end

@@ -1,11 +1,13 @@
--- Demand 3, after document 01, "The two runs": one claim about two whole lists. Its proof is proofs/Theorems.antt, demand-3.
+-- Demand 3, after document 01, "The two runs", and document 02, Q-2: one claim about two whole lists. Its proof is proofs/Theorems.antt,
+-- demand-3.
 use mathlib.Core.Path.{_≡_}
 use mathlib.Core.List.{List, _++_, _∷_}
-use Prim.Native.Nat.{ℕ, _+_, _<_}
+use Prim.Native.Nat.{ℕ, _<_}
 use Rattle.octets.specs.Part.{AreBytes}
 use Rattle.lockpage.specs.Geometry.{Geometry}
 use Rattle.lockpage.specs.declared.Entry.{Entry}
 use Rattle.lockpage.specs.Entry.{timeOfWrite, flag, frozenFlag, unfrozenFlag}
+use Rattle.lockpage.specs.Update.{expiryAt}
 use Rattle.lockpage.specs.Page.{entryAt}
 use Rattle.addressing.specs.Map.{groupOf, placeOf, physical, pageBlock}
 use Rattle.disk.specs.Disk.{block}
@@ -54,10 +56,15 @@ module _ (γ : Geometry) where
 
   -- ---- the claim
 
-  -- block b is protected at time t; T is the last time at the start. "A command is timed by its now; T + L is a plain sum"
+  -- T is the last time at the start. "With f = 0 and word L in its entry it is frozen under lock L": unfrozen at T, it has this expiry
+  abbrev pub earliestExpiry : Box → ℕ → ℕ
+  earliestExpiry s b = expiryAt (lastTime γ (s .memory)) (startEntry s b .word)
+
+  -- block b is protected at time t. "A command is timed by its now; T + L is a plain sum"
   pub data Protected (s : Box) (b : ℕ) (xs ys : List Event) (t : ℕ) : Type 0 where
-    -- "With f = 0 and word L in its entry it is frozen under lock L": before T + L
-    FrozenUnder : flag (startEntry s b .stamp) ≡ frozenFlag → t < lastTime γ (s .memory) + startEntry s b .word → Protected s b xs ys t
+    -- document 02, Q-2: "A frozen block with L of 1 or more is protected up to and including T + L"; under a lock of 0 before T, when no
+    -- command is accepted
+    FrozenUnder : flag (startEntry s b .stamp) ≡ frozenFlag → t < earliestExpiry s b → Protected s b xs ys t
     -- "with f = 1 and word E, E above T, it is counting down to E": before E
     CountingTo : flag (startEntry s b .stamp) ≡ unfrozenFlag → lastTime γ (s .memory) < startEntry s b .word → t < startEntry s b .word
         → Protected s b xs ys t

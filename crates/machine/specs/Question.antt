@@ -171,7 +171,7 @@ module _ (γ : Geometry) where
   abbrev pub question9 : Kind → ℕ → PageEntry → Question
   question9 k now e = toChanges k (λ u. Put 9 (allowed u (state now e)))
 
-  -- "Is a lock written or grown at most 2,147,483,647, an expiry at most 4,294,967,294?"
+  -- "Is a lock written or grown at most 2,147,483,647, an expiry at most" 4,294,967,295? The last is document 02's, Q-2
   abbrev pub question10 : Kind → ℕ → PageEntry → Question
   question10 k now e = toChanges k (λ u. Put 10 (withinLimit (updated u now e)))
 
