@@ -56,7 +56,7 @@ module _ (γ : Geometry) where
 -- γ is any proper geometry
 module _ {γ : Geometry} (σ : Proper γ) where
   -- where no more is asked of an unfreeze, or there is none, events that bring no forged page are fair
-  fair : (w : Watch) (s : Box) (es : List Event) → Throughout γ (Unforged γ) s es
+  pub fair : (w : Watch) (s : Box) (es : List Event) → Throughout γ (Unforged γ) s es
       → (w .forever ≡ true → Throughout γ (NotUnfrozen γ (w .block)) s es) → Throughout γ (Fair γ w) s es
   fair w s [] u n = tt
   fair w s (Given c ∷ es) u n = (

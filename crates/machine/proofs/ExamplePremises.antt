@@ -66,7 +66,7 @@ written-bytes =
     })
     .box
 
-start-bytes : ByteBox start
+pub start-bytes : ByteBox start
 unfolding start
 start-bytes =
     accepted-bytes base-proper writtenBox syncing syncing-served written-bytes

@@ -36,21 +36,27 @@ use Rattle.machine.proofs.SafeLaw.{Watch, Safe, SafePage, SafeDisk, Saf
 module _ {γ : Geometry} (σ : Proper γ) where
   -- ---- the last time is set
 
-  pub timed-kept : (w : Watch) (s : Box) (now : ℕ) → Timely γ s now → Kept γ w s → Kept γ w (timed γ s now)
+  timed-safe : (w : Watch) (s : Box) (now : ℕ) → Timely γ s now → SafeBox γ w s → SafeBox γ w (timed γ s now)
   unfolding timed
+  timed-safe w s now q safe =
+      let r = timed-reads σ s now q in
+      record {
+        disk = safe .disk;
+        held = λ n e. subst (SafePage γ w) (sym (r .page)) (safe .held (λ x. n (r .held ∙ x)) (sym (r .held) ∙ e));
+      }
+
+  pub timed-kept : (w : Watch) (s : Box) (now : ℕ) → Timely γ s now → Kept γ w s → Kept γ w (timed γ s now)
   timed-kept w s now q h =
       let r = timed-reads σ s now q in
       record {
         begun = omega (arith, r .time, h .begun, q .later);
-        safe =
-            λ l.
-            let safe = h .safe (omega (arith, r .time, q .later)) in
-            record {
-              disk = safe .disk;
-              held =
-                  λ n e. subst (SafePage γ w) (sym (r .page)) (safe .held (λ x. n (r .held ∙ x)) (sym (r .held) ∙ e));
-            };
+        safe = λ l. timed-safe w s now q (h .safe (omega (arith, r .time, q .later)));
       }
+
+  -- a watch may begin with the time that is set
+  pub begun-kept : (w : Watch) (s : Box) (now : ℕ) → Timely γ s now → w .start ≡ now → SafeBox γ w s → Kept γ w (timed γ s now)
+  begun-kept w s now q e safe =
+      record { begun = omega (arith, timed-reads σ s now q .time); safe = λ l. timed-safe w s now q safe }
 
   -- ---- the held page leaves or is lost
 

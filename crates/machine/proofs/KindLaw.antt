@@ -60,6 +60,18 @@ pub unfreeze-number : (n value : ℕ) → kindNumbered n value ≡ Change Unfree
 unfolding number
 unfreeze-number n value e = number-of n value (Change Unfreeze) e (omega arith)
 
+pub write-number : (n value lock : ℕ) → kindNumbered n value ≡ Change (Write lock) → n ≡ 4
+unfolding number
+write-number n value lock e = number-of n value (Change (Write lock)) e (omega arith)
+
+pub increment-number : (n value more : ℕ) → kindNumbered n value ≡ Change (Increment more) → n ≡ 6
+unfolding number
+increment-number n value more e = number-of n value (Change (Increment more)) e (omega arith)
+
+pub restart-number : (n value : ℕ) → kindNumbered n value ≡ Restart → n ≡ 8
+unfolding number
+restart-number n value e = number-of n value Restart e (omega arith)
+
 pub new-salt-number : (n value : ℕ) → kindNumbered n value ≡ NewSalt → n ≡ 9
 unfolding number
 new-salt-number n value e = number-of n value NewSalt e (omega arith)

@@ -3,6 +3,7 @@ pub mod CaseLaw
 pub mod KindLaw
 pub mod QuestionLaw
 pub mod StepLaw
+pub mod RunLaw
 pub mod TagLaw
 pub mod PassedLaw
 pub mod ListedLaw
@@ -13,6 +14,7 @@ pub mod BytesLaw
 pub mod ChangeLaw
 pub mod TimedLaw
 pub mod AfterLaw
+pub mod CurrentLaw
 pub mod AnswerLaw
 pub mod QueryNumberLaw
 pub mod PagesLaw
@@ -29,5 +31,8 @@ pub mod KeptLaw
 pub mod ShownLaw
 pub mod AlikeLaw
 pub mod NotFreeLaw
+pub mod TrackedLaw
+pub mod ExpiryLaw
+pub mod ExampleExpiry
 pub mod Theorems
 pub mod QueryTheorems

@@ -1,8 +1,9 @@
 -- A block that is kept is not shown as free, by kind 2 or in a list: the claim of specs/NotFree.antt, for AlikeLaw. Assumes nothing.
-use mathlib.Core.Path.{_≡_, refl, ap, sym, _∙_}
+use mathlib.Core.Path.{_≡_, refl, ap, sym, subst, _∙_}
 use mathlib.Core.List.{List, [], _∷_}
 use Prim.Native.Nat.{ℕ, _+_, _*_, _≤_, _<_}
 use native.Mathlib.Omega.{arith}
+use borrow.Author.Tests.{ltb-true}
 use lib.Dec.{lit<}
 use lib.ListN.{getD}
 use Rattle.octets.specs.Part.{AreBytes, part}
@@ -13,31 +14,35 @@ use Rattle.lockpage.specs.declared.State.{State}
 use Rattle.lockpage.specs.declared.State.the-variants.{Free, Frozen, Counting}
 use Rattle.lockpage.specs.State.{state, stateNumber, timeLeftSize}
 use Rattle.lockpage.specs.Update.{latestTime}
-use Rattle.memory.specs.Memory.{held, none}
+use Rattle.addressing.specs.Map.{dataBlocks}
+use Rattle.memory.specs.Memory.{groups, held, none}
+use Rattle.machine.specs.declared.Kind.the-variants.{Entry}
 use Rattle.machine.specs.Command.{Box}
 use Rattle.machine.specs.Tag.{currentEntry}
 use Rattle.machine.specs.Step.{step}
 use Rattle.machine.specs.Query.{blockNumber, shownSize, queryStep}
 use Rattle.machine.specs.Run.{Event, Given, Queried, Throughout}
 use Rattle.machine.specs.Protection.{Unforged}
-use Rattle.machine.specs.NotFree.{NotShownFree, NeverFree}
+use Rattle.machine.specs.NotFree.{StateShown, NotShownFree, NeverFree}
 use Rattle.machine.proofs.KindLaw.{entry-kind}
+use Rattle.machine.proofs.QuestionLaw.{all-yes}
 use Rattle.machine.proofs.StepLaw.{accepts}
+use Rattle.machine.proofs.PassedLaw.{Timely, passed, in-time}
 use Rattle.machine.proofs.QueryLaw.{query-passed, query-accepts}
 use Rattle.machine.proofs.AnswerLaw.{state-answer}
 use Rattle.machine.proofs.QueryShownLaw.{state-shown, number-below}
-use Rattle.machine.proofs.SafeLaw.{Watch, Kept, Safe, safe-not-free}
-use Rattle.machine.proofs.ShownLaw.{current-safe, entry-safe}
+use Rattle.machine.proofs.SafeLaw.{Watch, Kept, safe-not-free}
+use Rattle.machine.proofs.ShownLaw.{current-safe}
 use Rattle.machine.proofs.AlikeLaw.{timeOf, watch, Claim, command-early, both-hold}
 
 -- the byte of a part of one
-byte-of : (l : List ℕ) (at x : ℕ) → part l at 1 ≡ x ∷ [] → getD l at 0 ≡ x
+pub byte-of : (l : List ℕ) (at x : ℕ) → part l at 1 ≡ x ∷ [] → getD l at 0 ≡ x
 byte-of l at x e =
     let same : at ≡ at + 0 = omega arith in
     ap (λ (i : ℕ). getD l i 0) same ∙ sym (part-at l at 1 0 (lit< tt)) ∙ ap (λ (k : List ℕ). getD k 0 0) e
 
 -- only Free has its number
-free-number : (x : State) → stateNumber x ≡ stateNumber Free → x ≡ Free
+pub free-number : (x : State) → stateNumber x ≡ stateNumber Free → x ≡ Free
 unfolding stateNumber
 free-number Free e = refl
 free-number Frozen e = absurd (omega arith)
@@ -45,25 +50,41 @@ free-number Counting e = absurd (omega arith)
 
 -- γ is any proper geometry
 module _ {γ : Geometry} (σ : Proper γ) where
-  -- where the byte at some place is the state of a safe entry, it is not free's
-  not-free : (w : Watch) (a now at : ℕ) (s : Box) (l : List ℕ) → Safe w (currentEntry γ s a) → now < w .bound
-      → part l at 1 ≡ stateNumber (state now (currentEntry γ s a)) ∷ [] → getD l at 0 ≡ stateNumber Free → ⊥
-  not-free w a now at s l safe b e f =
-      let x = state now (currentEntry γ s a) in
-      safe-not-free w (currentEntry γ s a) now safe b (free-number x (sym (byte-of l at (stateNumber x) e) ∙ f))
+  -- P holds of the state of block b's current entry during those times, whenever the box takes a command or a query
+  abbrev pub StateIs : ℕ → (ℕ → Type 0) → (ℕ → Type 0) → Box → Type 0
+  StateIs b P during s = (now : ℕ) → Timely γ s now → b < dataBlocks γ (groups γ (s .memory)) → during now
+      → P (stateNumber (state now (currentEntry γ s b)))
 
-  event-not-free : (w : Watch) (s : Box) (e : Event) → Kept γ w s → NotShownFree γ (w .block) (λ t. t < w .bound) s e
-  event-not-free w s (Given c) h =
-      λ a k b l.
+  -- so it holds of a byte that shows the state of that block
+  shown-at : (b : ℕ) (P during : ℕ → Type 0) (s : Box) → StateIs b P during s → (a now : ℕ) → a ≡ b → Timely γ s now
+      → a < dataBlocks γ (groups γ (s .memory)) → during now → (l : List ℕ) (at : ℕ)
+      → part l at 1 ≡ stateNumber (state now (currentEntry γ s a)) ∷ [] → P (getD l at 0)
+  shown-at b P during s h a now e q inside d l at shown =
+      subst P (sym (byte-of l at (stateNumber (state now (currentEntry γ s a))) shown))
+      (subst (λ (i : ℕ). P (stateNumber (state now (currentEntry γ s i)))) (sym e)
+      (h now q (subst (λ (i : ℕ). i < dataBlocks γ (groups γ (s .memory))) e inside) d))
+
+  pub state-shown-as : (b : ℕ) (P during : ℕ → Type 0) (s : Box) (e : Event) → StateIs b P during s → StateShown γ b P during s e
+  state-shown-as b P during s (Given c) h =
+      λ a k e d.
       let r = accepts σ s c a in
       let kind = entry-kind (c .kind) (c .value) k in
-      not-free w (c .block) (c .now) (entrySize + timeLeftSize) s (step γ s c .answer) (entry-safe σ w s c h r kind b l) l (state-answer σ s c kind r)
-  event-not-free w s (Queried q) h =
-      λ a i inside b l.
+      let q = passed σ Entry s c (all-yes σ Entry s c kind r) in
+      let inside = ltb-true (c .block) (dataBlocks γ (groups γ (s .memory))) (q .range) in
+      shown-at b P during s h (c .block) (c .now) e (in-time σ Entry s c q) inside d (step γ s c .answer) (entrySize + timeLeftSize)
+      (state-answer σ s c kind r)
+  state-shown-as b P during s (Queried q) h =
+      λ a i inside e d.
       let r = query-accepts σ s q a in
-      let n = blockNumber (q .blocks) i in
-      not-free w n (q .now) (shownSize * i) s (queryStep γ s q .answer)
-      (current-safe σ w s (q .now) n h (query-passed σ s q r .timely) (number-below σ s q r i inside) b l) l (state-shown σ s q r i inside)
+      shown-at b P during s h (blockNumber (q .blocks) i) (q .now) e (query-passed σ s q r .timely) (number-below σ s q r i inside) d
+      (queryStep γ s q .answer) (shownSize * i) (state-shown σ s q r i inside)
+
+  pub event-not-free : (w : Watch) (s : Box) (e : Event) → Kept γ w s → NotShownFree γ (w .block) (λ t. t < w .bound) s e
+  event-not-free w s e h =
+      state-shown-as (w .block) (λ shown. shown ≡ stateNumber Free → ⊥) (λ t. t < w .bound) s e
+      (λ now q inside l f.
+      safe-not-free w (currentEntry γ s (w .block)) now (current-safe σ w s now (w .block) h q inside refl l) l
+      (free-number (state now (currentEntry γ s (w .block))) f))
 
   never-free : (s₀ : Box) (b : ℕ) → Claim γ s₀ b (NotShownFree γ b)
   unfolding watch

@@ -27,9 +27,7 @@ use Rattle.lockpage.specs.Page.{entryAt, withEntry}
 use Rattle.lockpage.proofs.StateLaw.{Says, says}
 use Rattle.lockpage.proofs.UpdateLaw.{expiry-later, expiry-longer, updated-fits, unfrozen-word, unfrozen-flag, unfrozen-time, grown-word, grown-stamp}
 use Rattle.lockpage.proofs.UpdateLaw.{grown-time, allowed-write, allowed-unfreeze}
-use Rattle.lockpage.proofs.PageLaw.{entry-within, entryAt-same, entryAt-other}
 use Rattle.addressing.specs.Map.{diskSize, groupOf, placeOf, physical, pageBlock}
-use Rattle.addressing.proofs.MapLaw.{placeOf-below}
 use Rattle.disk.specs.Disk.{block, withBlock}
 use Rattle.disk.proofs.DiskLaw.{withBlock-length, block-same, block-other, block-within}
 use Rattle.memory.specs.Memory.{lastTime, held, none, heldPage}
@@ -37,6 +35,7 @@ use Rattle.machine.specs.Command.{Box}
 use Rattle.machine.specs.Effect.{Store, stored}
 use Rattle.machine.proofs.CaseLaw.{same-or-not}
 use Rattle.machine.proofs.EffectLaw.{EachStore, Whole, each-keeps}
+use Rattle.machine.proofs.CurrentLaw.{entry-replaced}
 
 -- what is watched: a block, its content and time of write at the start, the time before which it is protected, the start's last time,
 -- and whether no command unfreezes it
@@ -136,15 +135,7 @@ module _ {γ : Geometry} (σ : Proper γ) where
   -- an entry replaced: the block's by a safe one, or another's
   pub safe-page : (w : Watch) (p : List ℕ) (a : ℕ) (e : Entry) → length p ≡ pageSize γ → SafePage γ w p
       → (placeOf γ a ≡ placeOf γ (w .block) → Safe w e) → SafePage γ w (withEntry p (placeOf γ a) e)
-  safe-page w p a e l h own =
-      let i = placeOf γ a in
-      let j = placeOf γ (w .block) in
-      let inside = entry-within σ p i l (placeOf-below σ a) in
-      same-or-not i j
-      (λ here.
-      subst (λ (k : ℕ). Safe w (entryAt (withEntry p i e) k)) here
-      (subst (Safe w) (sym (entryAt-same p i e inside (own here .fits))) (own here)))
-      (λ other. subst (Safe w) (sym (entryAt-other p i e inside j (λ x. other (sym x)))) h)
+  safe-page w p a e l h own = entry-replaced σ (Safe w) p a (w .block) e l h (λ here. (own here .fits, own here))
 
   -- ---- disks
 

@@ -15,10 +15,9 @@ use Rattle.lockpage.specs.State.{state}
 use Rattle.lockpage.specs.Update.{updated}
 use Rattle.lockpage.specs.Page.{entryAt}
 use Rattle.lockpage.proofs.StateLaw.{Says, says}
-use Rattle.lockpage.proofs.UpdateLaw.{updated-fits, unfrozen-flag, allowed-write, allowed-unfreeze}
-use Rattle.lockpage.proofs.PageLaw.{entry-within, entryAt-fits, entryAt-same}
+use Rattle.lockpage.proofs.UpdateLaw.{unfrozen-flag, allowed-write, allowed-unfreeze}
 use Rattle.addressing.specs.Map.{groupData, groupOf, placeOf, pageBlock}
-use Rattle.addressing.proofs.MapLaw.{placeOf-below, physical-page}
+use Rattle.addressing.proofs.MapLaw.{physical-page}
 use Rattle.memory.specs.Layout.{memorySize, countSize}
 use Rattle.memory.specs.Memory.{count, groups, held}
 use Rattle.memory.specs.Claims.{changed}
@@ -27,9 +26,9 @@ use Rattle.validity.proofs.ValidLaw.{Valid, facts}
 use Rattle.machine.specs.declared.Kind.{Kind}
 use Rattle.machine.specs.declared.Kind.the-variants.{Read, Entry, Page, Change, Sync, Restart, NewSalt, Identify, Unknown}
 use Rattle.machine.specs.Command.{Box, Command, kindOf, broughtPage, broughtTag, broughtEntry}
-use Rattle.machine.specs.Tag.{tag, currentPage}
+use Rattle.machine.specs.Tag.{tag, currentEntry}
 use Rattle.machine.specs.Question.{questionsTo, refusal, AllYes}
-use Rattle.machine.specs.Effect.{updatedPage, changedPage}
+use Rattle.machine.specs.Effect.{changedPage}
 use Rattle.machine.specs.Step.{step}
 use Rattle.machine.specs.Query.{Query, queryRefusal, queryStep}
 use Rattle.machine.specs.Run.{Event, Given, Queried, after, run, Throughout}
@@ -40,14 +39,15 @@ use Rattle.machine.proofs.CaseLaw.{same-or-not}
 use Rattle.machine.proofs.KindLaw.{new-salt-number, write-kind, unfreeze-kind, restart-kind}
 use Rattle.machine.proofs.QuestionLaw.{all-seven, all-yes, refused-by-seventh, refused-by-ninth, got-seventh, nine-seven, seventh-yes, ninth-yes}
 use Rattle.machine.proofs.StepLaw.{step-number, accepts, refused-by, accepted-or-same}
-use Rattle.machine.proofs.TagLaw.{tagged-page, tagged-tag, brought-length, brought-are, message-same}
+use Rattle.machine.proofs.TagLaw.{tagged-page, tagged-tag, message-same}
 use Rattle.machine.proofs.PassedLaw.{passed, changes, changed-group, timed-reads}
 use Rattle.machine.proofs.QueryLaw.{query-passed, query-times, query-or-same, query-valid}
 use Rattle.machine.proofs.EffectLaw.{changed-length, count-changed, count-unchanged}
 use Rattle.machine.proofs.ValidBoxLaw.{accepted-valid}
 use Rattle.machine.proofs.TimedLaw.{in-memory}
 use Rattle.machine.proofs.AnswerLaw.{changed-answer}
-use Rattle.machine.proofs.AfterLaw.{accepted-after, own-page, own-count, own-held, lost-count}
+use Rattle.machine.proofs.AfterLaw.{accepted-after, own-count, own-held, lost-count}
+use Rattle.machine.proofs.CurrentLaw.{own-entry}
 
 -- a count raised by 1 or left
 raised : (f : ℕ → ℕ) (a g : ℕ) → (a ≡ g → f a ≤ countLimit) → f g < 256 ^ countSize
@@ -89,29 +89,20 @@ module _ {γ : Geometry} (σ : Proper γ) where
   -- ---- a second unfreeze
 
   pub second-unfreeze-refused : SecondUnfreezeRefused γ
-  unfolding SecondUnfreezeRefused updatedPage
+  unfolding SecondUnfreezeRefused
   second-unfreeze-refused s c d kc kd same bytes a u =
       let ec = unfreeze-kind (c .kind) (c .value) kc in
       let ed = unfreeze-kind (d .kind) (d .value) kd in
       let t = step γ s c .box in
-      let yes-all = all-yes σ (Change Unfreeze) s c ec (accepts σ s c a) in
-      let q = passed σ (Change Unfreeze) s c yes-all in
-      let x = changes σ Unfreeze s c yes-all in
       let e = broughtEntry γ c in
-      let fits = updated-fits Unfreeze (c .now) e (q .early)
-      (entryAt-fits (broughtPage γ (c .proof)) (placeOf γ (c .block)) (brought-are σ (c .proof) bytes)) (x .within) in
-      let inside = entry-within σ (broughtPage γ (c .proof)) (placeOf γ (c .block)) (brought-length σ (c .proof) (x .proof)) (placeOf-below σ (c .block)) in
-      let stored : entryAt (changedPage γ Unfreeze c) (placeOf γ (c .block)) ≡ updated Unfreeze (c .now) e =
-      entryAt-same (broughtPage γ (c .proof)) (placeOf γ (c .block)) (updated Unfreeze (c .now) e) inside fits in
       refused-by σ 9 t d
       (refused-by-ninth σ Unfreeze t d ed
       (λ h.
-      let brings : broughtPage γ (d .proof) ≡ changedPage γ Unfreeze c =
-      u (got-seventh σ Unfreeze t d ed (nine-seven σ Unfreeze t d h))
-      ∙ ap (currentPage γ t) (ap (groupOf γ) same)
-      ∙ own-page σ Unfreeze s c ec (accepts σ s c a) in
+      let brings = u (got-seventh σ Unfreeze t d ed (nine-seven σ Unfreeze t d h)) in
       let found : broughtEntry γ d ≡ updated Unfreeze (c .now) e =
-      ap (λ (p : List ℕ). entryAt p (placeOf γ (d .block))) brings ∙ ap (λ (b : ℕ). entryAt (changedPage γ Unfreeze c) (placeOf γ b)) same ∙ stored in
+      ap (λ (p : List ℕ). entryAt p (placeOf γ (d .block))) brings
+      ∙ ap (currentEntry γ t) same
+      ∙ own-entry σ Unfreeze s c ec (accepts σ s c a) bytes in
       let is-frozen = allowed-unfreeze (state (d .now) (broughtEntry γ d)) (ninth-yes σ Unfreeze t d h) in
       let still : flag (broughtEntry γ d .stamp) ≡ frozenFlag = subst (Says (d .now) (broughtEntry γ d)) is-frozen (says (d .now) (broughtEntry γ d)) in
       let now : flag (broughtEntry γ d .stamp) ≡ unfrozenFlag = ap (λ (i : PageEntry). flag (i .stamp)) found ∙ unfrozen-flag (c .now) e in

@@ -2,7 +2,7 @@
 use mathlib.Core.Path.{_≡_, refl, ap, sym, subst, _∙_}
 use mathlib.Core.Bool.{true}
 use mathlib.Core.Logic.{⊎-elim}
-use mathlib.Core.List.{List, [], _∷_}
+use mathlib.Core.List.{List}
 use Prim.Native.Nat.{ℕ, _<_}
 use native.Mathlib.Omega.{arith}
 use borrow.Author.Tests.{ltb-true}
@@ -30,6 +30,7 @@ use Rattle.machine.proofs.TagLaw.{current, current-same}
 use Rattle.machine.proofs.PassedLaw.{Timely, passed, in-time, passed-timed, accepted-changes, timed-reads}
 use Rattle.machine.proofs.QueryLaw.{query-passed, query-times, query-or-same}
 use Rattle.machine.proofs.AnswerLaw.{read-answer, entry-answer}
+use Rattle.machine.proofs.RunLaw.{run-invariant}
 use Rattle.machine.proofs.SafeLaw.{Watch, Safe, SafePage, Kept}
 use Rattle.machine.proofs.KeptLaw.{timed-kept, effect-kept}
 
@@ -48,8 +49,8 @@ module _ (γ : Geometry) where
 module _ {γ : Geometry} (σ : Proper γ) where
   -- ---- a command keeps the block
 
-  accepted-kept : (w : Watch) (k : Kind) (s : Box) (c : Command) → kindOf c ≡ k → refusal γ s c ≡ 0 → Fair γ w s (Given c) → Kept γ w s
-      → Kept γ w (step γ s c .box)
+  pub accepted-kept : (w : Watch) (k : Kind) (s : Box) (c : Command) → kindOf c ≡ k → refusal γ s c ≡ 0 → Fair γ w s (Given c)
+      → (Timely γ s (c .now) → Kept γ w (timed γ s (c .now))) → Kept γ w (step γ s c .box)
   unfolding done timed
   accepted-kept w k s c e r f h =
       let yes-all = all-yes σ k s c e r in
@@ -63,11 +64,12 @@ module _ {γ : Geometry} (σ : Proper γ) where
       f .0 (got-seventh σ u s c (e ∙ j) (all-seven σ u s c (all-yes σ (Change u) s c (e ∙ j) r)))
       ∙ sym (current-same σ s t (groupOf γ (c .block)) (reads .held) (reads .page) refl) in
       subst (λ (o : Outcome). Kept γ w (o .box)) (sym (step-accepted σ k s c e r))
-      (effect-kept σ w k t c (passed-timed σ k s c q) x (reads .time) brings (λ j. f .1 r (e ∙ j)) (timed-kept σ w s (c .now) known h))
+      (effect-kept σ w k t c (passed-timed σ k s c q) x (reads .time) brings (λ j. f .1 r (e ∙ j)) (h known))
 
   event-kept : (w : Watch) (s : Box) (e : Event) → Fair γ w s e → Kept γ w s → Kept γ w (after γ s e)
   event-kept w s (Given c) f h =
-      ⊎-elim (λ r. accepted-kept w (kindOf c) s c refl r f h) (λ e. subst (Kept γ w) (sym e) h) (accepted-or-same σ s c)
+      ⊎-elim (λ r. accepted-kept w (kindOf c) s c refl r f (λ q. timed-kept σ w s (c .now) q h)) (λ e. subst (Kept γ w) (sym e) h)
+      (accepted-or-same σ s c)
   event-kept w s (Queried q) f h =
       ⊎-elim
       (λ r. subst (Kept γ w) (sym (query-times σ s q r)) (timed-kept σ w s (q .now) (query-passed σ s q r .timely) h))
@@ -98,7 +100,7 @@ module _ {γ : Geometry} (σ : Proper γ) where
       (subst (λ (i : ℕ). SafePage γ w (block γ (s .disk) (pageBlock γ i))) (sym same) (safe .disk .page)))
 
   -- that of an accepted kind 2
-  pub entry-safe : (w : Watch) (s : Box) (c : Command) → Kept γ w s → refusal γ s c ≡ 0 → kindOf c ≡ Entry → c .block ≡ w .block → c .now < w .bound
+  entry-safe : (w : Watch) (s : Box) (c : Command) → Kept γ w s → refusal γ s c ≡ 0 → kindOf c ≡ Entry → c .block ≡ w .block → c .now < w .bound
       → Safe w (currentEntry γ s (c .block))
   entry-safe w s c h r k e l =
       let q = passed σ Entry s c (all-yes σ Entry s c k r) in
@@ -123,5 +125,4 @@ module _ {γ : Geometry} (σ : Proper γ) where
   -- what holds of each event where the block is kept holds throughout a fair run
   pub run-kept : (P : Box → Event → Type 0) (w : Watch) → ((s : Box) (e : Event) → Kept γ w s → P s e) → (s : Box) (es : List Event)
       → Throughout γ (Fair γ w) s es → Kept γ w s → Throughout γ P s es
-  run-kept P w each s [] f h = tt
-  run-kept P w each s (e ∷ es) f h = (each s e h, run-kept P w each (after γ s e) es (f .1) (event-kept w s e (f .0) h))
+  run-kept P w each = run-invariant σ (Kept γ w) (Fair γ w) P each (event-kept w)

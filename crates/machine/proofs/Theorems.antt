@@ -7,8 +7,9 @@ use Rattle.lockpage.specs.Geometry.{Geometry, Proper, base, present}
 use Rattle.lockpage.specs.Entry.{timeOfWrite}
 use Rattle.lockpage.specs.Page.{entryAt}
 use Rattle.lockpage.proofs.GeometryLaw.{base-proper, present-proper}
+use Rattle.lockpage.proofs.UpdateLaw.{expiry-some}
 use Rattle.addressing.specs.Map.{diskSize}
-use Rattle.memory.specs.Memory.{groups}
+use Rattle.memory.specs.Memory.{lastTime, groups}
 use Rattle.validity.proofs.ValidLaw.{facts}
 use Rattle.machine.specs.Command.{Box, Command, kindOf}
 use Rattle.machine.specs.Question.{refusal, questions}
@@ -17,10 +18,11 @@ use Rattle.machine.specs.Claims.{PapersBufferSizes, PassesIfAllYes, Kind
 use Rattle.machine.specs.Claims.{AcceptedLeavesValid, StaysValid, InvalidRefuses, StepKeepsBytes, SameLengths, StepKeepsLengths}
 use Rattle.machine.specs.Claims.{FormattingFormats}
 use Rattle.machine.specs.After.{AcceptedDoes, NewSaltDiffers, HeldPageFirst, AnswersServe}
-use Rattle.machine.specs.Protection.{startContent, startEntry, Demand3, ReadsAlike, EntriesAlike}
+use Rattle.machine.specs.Protection.{startContent, startEntry, FrozenUnder, Demand3, ReadsAlike, EntriesAlike}
 use Rattle.machine.specs.Shortcuts.{Shortcuts}
 use Rattle.machine.specs.EdgeValues.{EdgeValues}
-use Rattle.machine.specs.Example.{PremisesMet}
+use Rattle.machine.specs.Expiry.{ProtectedThroughLock, lockOf, UnfrozenNotFree, UnfrozenThenFree}
+use Rattle.machine.specs.Example.{PremisesMet, ExpiryMet, CountingMet}
 use Rattle.machine.proofs.CaseLaw.{same-or-not}
 use Rattle.machine.proofs.KindLaw.{one-to-ten, new-salt-kind}
 use Rattle.machine.proofs.QuestionLaw.{passes-if, answers-first-no, refused-by-second, all-numbered, all-yes}
@@ -38,6 +40,8 @@ use Rattle.machine.proofs.ShortcutLaw as shortcut
 use Rattle.machine.proofs.EdgeLaw as edge
 use Rattle.machine.proofs.ExamplePremises as example
 use Rattle.machine.proofs.AlikeLaw.{both-shown, seen-alike}
+use Rattle.machine.proofs.ExpiryLaw as expiry
+use Rattle.machine.proofs.ExampleExpiry as example-expiry
 
 -- ---- specs/Claims.antt
 
@@ -149,6 +153,25 @@ module _ {γ : Geometry} (σ : Proper γ) where
   unfolding EntriesAlike
   entries-alike = seen-alike σ 2 (λ answer. timeOfWrite (entryAt answer 0)) (λ s b. timeOfWrite (startEntry γ s b)) (λ s b during t c h. h .entry)
 
+  -- ---- specs/Expiry.antt
+
+  pub protected-through-lock : ProtectedThroughLock γ
+  unfolding ProtectedThroughLock
+  protected-through-lock s b xs ys t f some l =
+      FrozenUnder f (omega (arith, expiry-some (lastTime γ (s .memory)) (startEntry γ s b .word) some))
+
+  pub unfrozen-not-free : UnfrozenNotFree γ
+  unfolding UnfrozenNotFree
+  unfrozen-not-free s c es x stays =
+      let lock = lockOf γ s (c .block) in
+      expiry.unfrozen-not-free σ s c es x _ (λ now l. omega (arith, expiry-some (c .now) lock (x .lock))) stays
+
+  pub unfrozen-then-free : UnfrozenThenFree γ
+  unfolding UnfrozenThenFree
+  unfrozen-then-free s c es x leaves =
+      let lock = lockOf γ s (c .block) in
+      expiry.unfrozen-then-free σ s c es x _ (λ now l. omega (arith, expiry-some (c .now) lock (x .lock))) leaves
+
 -- ---- specs/EdgeValues.antt and specs/Example.antt
 
 pub edge-values : EdgeValues
@@ -156,6 +179,12 @@ edge-values = edge.edge-values
 
 pub premises-met : PremisesMet
 premises-met = example.premises-met
+
+pub expiry-met : ExpiryMet
+expiry-met = example-expiry.expiry-met
+
+pub counting-met : CountingMet
+counting-met = example-expiry.counting-met
 
 -- ---- demand 3 of document 01's box, and of the box that the code runs
 

@@ -1,26 +1,30 @@
 -- The premises of demand 3 can be met, by two runs in which it says something. One writes a block and syncs; from there on, which is the
 -- start, it unfreezes the block, shows its entry, queries its state, restarts, reads it back, unfreezes it again and overwrites it. The
 -- other shows, queries and reads it from the same start. Each event is accepted, no page is forged, and the block is protected where it is
--- shown, queried and read. The claim is a type; its proof is proofs/Theorems.antt, premises-met.
+-- shown, queried and read. A third run, from the first unfreeze to its expiry, meets those of specs/Expiry.antt; and a fourth has a
+-- block that counts at its start. The claims are types; their proofs are proofs/Theorems.antt, premises-met, expiry-met and counting-met.
 use mathlib.Core.Path.{_≡_}
 use mathlib.Core.List.{List, [], _∷_, _++_}
-use Prim.Native.Nat.{ℕ, _*_}
+use Prim.Native.Nat.{ℕ, _+_, _*_}
+use lib.ListN.{getD}
 use Rattle.octets.specs.Part.{AreBytes, repeated}
 use Rattle.lockpage.specs.Geometry.{base}
-use Rattle.lockpage.specs.Size.{blockSize}
+use Rattle.lockpage.specs.Size.{entrySize, blockSize}
 use Rattle.lockpage.specs.Entry.{entry, stampOf, frozenFlag, unfrozenFlag}
+use Rattle.lockpage.specs.State.{timeLeftSize}
 use Rattle.lockpage.specs.Page.{entryAt}
 use Rattle.addressing.specs.Map.{diskSize, groupOf, physical}
 use Rattle.disk.specs.Disk.{block}
 use Rattle.memory.specs.Layout.{memorySize, saltSize}
 use Rattle.memory.specs.Memory.{lastTime, held, none}
 use Rattle.machine.specs.Command.{Box, Command, boxOf, answerSize}
-use Rattle.machine.specs.Tag.{tagged, currentPage}
+use Rattle.machine.specs.Tag.{tagged, currentPage, currentEntry}
 use Rattle.machine.specs.Step.{step, padded, Accepted}
 use Rattle.machine.specs.Format.{format}
 use Rattle.machine.specs.Query.{Query, queryOf, numbers, shownSize, queryStep, AcceptedQuery}
 use Rattle.machine.specs.Run.{Event, Given, Queried, run, Throughout}
 use Rattle.machine.specs.Protection.{Unforged, startContent, startEntry, Protected, ShownIn}
+use Rattle.machine.specs.Expiry.{lockOf, Unfreezes, PageStays, Leaves}
 
 -- an update of block 0 that brings the current page with its tag
 abbrev pub updating : Box → ℕ → ℕ → ℕ → List ℕ → Command
@@ -146,7 +150,35 @@ readingOther = plain 1 1500
 abbrev pub otherEvents : List Event
 otherEvents = Given showingOther ∷ Queried listingOther ∷ Given readingOther ∷ []
 
--- ---- the claim
+-- ---- a run to the expiry: from the first unfreeze on
+
+-- its entry shown at 1700, which is 1200 + 500
+abbrev pub showingLast : Command
+showingLast = plain 2 1700
+
+unfoldable pub lastBox : Box
+lastBox = step base unfrozenBox showingLast .box
+
+-- and a second later
+abbrev pub showingFree : Command
+showingFree = plain 2 1701
+
+abbrev pub toExpiry : List Event
+toExpiry = Given showingLast ∷ Given showingFree ∷ []
+
+-- ---- a start at which block 0 counts: the first unfreeze synced
+
+abbrev pub syncingUnfrozen : Command
+syncingUnfrozen = plain 7 1200
+
+unfoldable pub countingStart : Box
+countingStart = step base unfrozenBox syncingUnfrozen .box
+
+-- from there one run shows its entry at 1700, the other does nothing
+abbrev pub countingEvents : List Event
+countingEvents = Given showingLast ∷ []
+
+-- ---- the claims
 
 abbrev pub IsAccepted : Box → Event → Type 0
 IsAccepted s (Given c) = Accepted base s c
@@ -197,3 +229,28 @@ pub record PremisesMet : Type 0 where
       (1 ∷ 244 ∷ 1 ∷ 0 ∷ 0 ∷ 0 ∷ 0 ∷ 0 ∷ 0 ∷ 0 ∷ 61 ∷ 250 ∷ 255 ∷ 255 ∷ 255 ∷ 255 ∷ 255 ∷ 255 ∷ 1 ∷ 244 ∷ 1 ∷ 0 ∷ 0 ∷ 0 ∷ 0 ∷ 0 ∷ 0 ∷ [])
   -- and the other run does not unfreeze it: were both as it is, the block would be protected to the end
   pub to-the-end : (t : ℕ) → Protected base start 0 otherEvents otherEvents t
+
+-- those of specs/Expiry.antt: block 0, under lock 500, is unfrozen at 1200
+pub record ExpiryMet : Type 0 where
+  pub unfreezes : Unfreezes base start unfreezing toExpiry
+  pub lock : lockOf base start 0 ≡ 500
+  -- both ways in which the lock stays, and nobody increments the block
+  pub on-disk : startEntry base start 0 ≡ currentEntry base start 0
+  pub none-lost : Throughout base (PageStays base 0) unfrozenBox toExpiry
+  pub leaves : Throughout base (Leaves base 0) unfrozenBox toExpiry
+  pub accepted : Throughout base IsAccepted unfrozenBox toExpiry
+  -- at 1700 it is shown as counting, at 1701 as free
+  pub counting : getD (step base unfrozenBox showingLast .answer) (entrySize + timeLeftSize) 0 ≡ 2
+  pub free : getD (step base lastBox showingFree .answer) (entrySize + timeLeftSize) 0 ≡ 0
+
+-- and demand 3's of a block that counts at the start: T is 1200, its expiry is 1701
+pub record CountingMet : Type 0 where
+  pub bytes : AreBytes (countingStart .disk)
+  pub none-held : held base (countingStart .memory) ≡ none
+  pub unforged : Throughout base (Unforged base) countingStart countingEvents
+  pub last-time : lastTime base (countingStart .memory) ≡ 1200
+  pub start-entry : startEntry base countingStart 0 ≡ entry 1701 (stampOf 1000 unfrozenFlag)
+  -- it is protected up to 1700, when the first run shows its time of write
+  pub protected : Protected base countingStart 0 countingEvents [] 1700
+  pub among : ShownIn base 2 countingStart 0 countingEvents showingLast
+  pub shown : entryAt (step base countingStart showingLast .answer) 0 ≡ entry 1701 (stampOf 1000 unfrozenFlag)

@@ -13,6 +13,7 @@ pub mod After
 pub mod QueryClaims
 pub mod Protection
 pub mod NotFree
+pub mod Expiry
 pub mod Shortcuts
 pub mod EdgeValues
 pub mod Example

@@ -18,13 +18,17 @@ use Rattle.machine.specs.Protection.{Unforged, Protected}
 
 -- γ is the box's geometry; the numbers quoted are those at base
 module _ (γ : Geometry) where
-  -- during those times block b is not shown as free: the state byte of an accepted kind 2 on it stands behind the entry and the time left,
-  -- that of number i of an accepted list at 9 × i
+  -- P holds of each state byte that is shown of block b during those times: that of an accepted kind 2 on it stands behind the entry and the
+  -- time left, that of number i of an accepted list at 9 × i
+  abbrev pub StateShown : ℕ → (ℕ → Type 0) → (ℕ → Type 0) → Box → Event → Type 0
+  StateShown b P during s (Given c) = Accepted γ s c → c .kind ≡ 2 → c .block ≡ b → during (c .now)
+      → P (getD (step γ s c .answer) (entrySize + timeLeftSize) 0)
+  StateShown b P during s (Queried q) = AcceptedQuery γ s q → (i : ℕ) → i < numberCount (q .blocks) → blockNumber (q .blocks) i ≡ b → during (q .now)
+      → P (getD (queryStep γ s q .answer) (shownSize * i) 0)
+
+  -- during those times block b is not shown as free
   abbrev pub NotShownFree : ℕ → (ℕ → Type 0) → Box → Event → Type 0
-  NotShownFree b during s (Given c) = Accepted γ s c → c .kind ≡ 2 → c .block ≡ b → during (c .now)
-      → getD (step γ s c .answer) (entrySize + timeLeftSize) 0 ≡ stateNumber Free → ⊥
-  NotShownFree b during s (Queried q) = AcceptedQuery γ s q → (i : ℕ) → i < numberCount (q .blocks) → blockNumber (q .blocks) i ≡ b → during (q .now)
-      → getD (queryStep γ s q .answer) (shownSize * i) 0 ≡ stateNumber Free → ⊥
+  NotShownFree b = StateShown b (λ shown. shown ≡ stateNumber Free → ⊥)
 
   -- the run es from s does not show block b as free where it is protected
   abbrev pub NeverFree : Box → ℕ → List Event → List Event → List Event → Type 0
