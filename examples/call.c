@@ -43,9 +43,9 @@ int main(void) {
     printf("write again %u\n", command(SOCKJADE_WRITE, 1001, 500, block, sizeof block));
     printf("unfreeze %u\n", command(SOCKJADE_UNFREEZE, 1200, 0, block, 0));
     print_states(1650);
-    printf("write at 1699 %u\n", command(SOCKJADE_WRITE, 1699, 9, block, sizeof block));
     printf("write at 1700 %u\n", command(SOCKJADE_WRITE, 1700, 9, block, sizeof block));
-    printf("read %u", command(SOCKJADE_READ, 1700, 0, block, 0));
+    printf("write at 1701 %u\n", command(SOCKJADE_WRITE, 1701, 9, block, sizeof block));
+    printf("read %u", command(SOCKJADE_READ, 1701, 0, block, 0));
     printf(" %c\n", answer[0]);
     return 0;
 }

@@ -42,7 +42,7 @@ enum {
     SOCKJADE_TAG_WRONG = 7,            /* the tag is not that of the page brought, under the present salt and count */
     SOCKJADE_COUNT_EXHAUSTED = 8,      /* the group's count is exhausted, until a new salt */
     SOCKJADE_STATE_WRONG = 9,          /* write: not free; unfreeze: not frozen; increment: free */
-    SOCKJADE_LIMIT_EXCEEDED = 10,      /* a lock above 2,147,483,647 or an expiry above 4,294,967,294 */
+    SOCKJADE_LIMIT_EXCEEDED = 10,      /* a lock above 2,147,483,647 or an expiry above 4,294,967,295 */
     SOCKJADE_SALT_UNCHANGED = 11,      /* the new salt is the present one */
     SOCKJADE_LIST_SIZE_WRONG = 12      /* the list is not 1 to 64 numbers of 4 bytes each; asked after 4 */
 };
@@ -53,7 +53,7 @@ enum {
     SOCKJADE_ENTRY = 2,     /* answer: entry (word, stamp), time left (signed, 8 bytes from byte 8 on), state (byte 16) */
     SOCKJADE_PAGE = 3,      /* block names a group; answer: its page, and the tag */
     SOCKJADE_WRITE = 4,     /* value: the lock in seconds; data: the block; proof: page and tag; answer: the new page and tag */
-    SOCKJADE_UNFREEZE = 5,  /* proof: page and tag; answer: the new page and tag */
+    SOCKJADE_UNFREEZE = 5,  /* proof: page and tag; answer: the new page and tag. The expiry is now + lock + 1; of lock 0, now */
     SOCKJADE_INCREMENT = 6, /* value: seconds to add; proof: page and tag; answer: the new page and tag */
     SOCKJADE_SYNC = 7,      /* the held page goes to the disk; answer: zeros */
     SOCKJADE_RESTART = 8,   /* by the box alone, after a power cut: the held page is lost; answer: zeros */
@@ -61,7 +61,7 @@ enum {
     SOCKJADE_IDENTIFY = 10  /* answer: groups, data blocks (4 bytes each) */
 };
 
-/* States in the answer of SOCKJADE_ENTRY, and of sockjade_states. */
+/* States in the answer of SOCKJADE_ENTRY, and of sockjade_states. A block is counting before its expiry, and free from it on. */
 enum {
     SOCKJADE_FREE = 0,
     SOCKJADE_FROZEN = 1,

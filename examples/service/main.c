@@ -199,11 +199,12 @@ static void second_run(struct box *box, struct server *server) {
     status_page(box);
     power_cut(box, server);
     printf("the countdown ends\n");
-    send_at(1699, box, server, "write block 0", SOCKJADE_WRITE, 0, 1000, 'e');
-    send_at(1699, box, server, "read block 0", SOCKJADE_READ, 0, 0, 0);
     send_at(1700, box, server, "entry of block 0", SOCKJADE_ENTRY, 0, 0, 0);
-    send_at(1700, box, server, "write block 0, lock 1000", SOCKJADE_WRITE, 0, 1000, 'e');
+    send_at(1700, box, server, "write block 0", SOCKJADE_WRITE, 0, 1000, 'e');
     send_at(1700, box, server, "read block 0", SOCKJADE_READ, 0, 0, 0);
+    send_at(1701, box, server, "entry of block 0", SOCKJADE_ENTRY, 0, 0, 0);
+    send_at(1701, box, server, "write block 0, lock 1000", SOCKJADE_WRITE, 0, 1000, 'e');
+    send_at(1701, box, server, "read block 0", SOCKJADE_READ, 0, 0, 0);
     printf("a new salt, and an orderly stop\n");
     box->clock = 1800;
     print_line(box, "new salt, by the box", renew_salt(box), "");

@@ -1,6 +1,6 @@
 //! The controller, written from document 01 and apart from the Rattle code. It works on the slices
 //! that it is lent. The questions see them only to read, so a refusal cannot change a byte. In
-//! `states` is the list of document 02's request Q-1.
+//! `states` is the list of document 02's request Q-1, in `entry` the expiry of Q-2.
 mod entry;
 mod memory;
 mod states;

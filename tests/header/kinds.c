@@ -1,5 +1,5 @@
-/* Each kind, accepted, with the bytes of answer, memory and disk, after document 01's "Commands" and its edge values. The disk's
- * byte offsets are 512 × the physical block: block 64 lies at 65, the pages at 64 and 129. */
+/* Each kind, accepted, with the bytes of answer, memory and disk, after document 01's "Commands" and its edge values, and document
+ * 02's Q-2. The disk's byte offsets are 512 × the physical block: block 64 lies at 65, the pages at 64 and 129. */
 #include <string.h>
 #include "box.h"
 #include "check.h"
@@ -43,9 +43,21 @@ static void test_entry(void) {
     write_block_64();
     check_entry("entry, frozen", 1000, "F4 01 00 00 D0 07 00 00 F4 01 00 00 00 00 00 00", SOCKJADE_FROZEN, 1);
     accept_update("unfreeze", &box, SOCKJADE_UNFREEZE, 64, 1200, 0);
-    check_entry("entry, counting", 1650, "A4 06 00 00 D1 07 00 00 32 00 00 00 00 00 00 00", SOCKJADE_COUNTING, 2);
-    check_entry("entry, free", 1700, "A4 06 00 00 D1 07 00 00 00 00 00 00 00 00 00 00", SOCKJADE_FREE, 0);
-    check_entry("entry, free for 50 seconds", 1750, "A4 06 00 00 D1 07 00 00 CE FF FF FF FF FF FF FF", SOCKJADE_FREE, 0);
+    check_entry("entry, counting", 1650, "A5 06 00 00 D1 07 00 00 33 00 00 00 00 00 00 00", SOCKJADE_COUNTING, 2);
+    check_entry("entry, the last second", 1700, "A5 06 00 00 D1 07 00 00 01 00 00 00 00 00 00 00", SOCKJADE_COUNTING, 2);
+    check_entry("entry, free", 1701, "A5 06 00 00 D1 07 00 00 00 00 00 00 00 00 00 00", SOCKJADE_FREE, 0);
+}
+
+/* "Expiry 1700: at 1650, 50 left; .. at 1700, 0 and free; .. at 1750, CE FF FF FF FF FF FF FF." This one is on the disk, from before
+ * document 02's Q-2: "Expiries already stored keep their word." */
+static void test_stored_expiry(void) {
+    format_box(&box);
+    store_little_endian(box.disk + PAGE_1, 1700, 4);
+    store_little_endian(box.disk + PAGE_1 + 4, 2 * 1000 + 1, 4);
+    check_entry("expiry 1700, counting", 1650, "A4 06 00 00 D1 07 00 00 32 00 00 00 00 00 00 00", SOCKJADE_COUNTING, 2);
+    accept_update("write another block", &box, SOCKJADE_WRITE, 65, 1650, 500);
+    check_entry("expiry 1700, free", 1700, "A4 06 00 00 D1 07 00 00 00 00 00 00 00 00 00 00", SOCKJADE_FREE, 0);
+    check_entry("expiry 1700, free for 50 seconds", 1750, "A4 06 00 00 D1 07 00 00 CE FF FF FF FF FF FF FF", SOCKJADE_FREE, 0);
 }
 
 /* "3 page: block names a group; its current page and tag." The tag is from b3sum:
@@ -95,13 +107,26 @@ static void test_eviction(void) {
     check_hex("memory after two writes", box.memory + 96, "E9 03 00 00 02 00 00 00 F4 01 00 00 D2 07 00 00");
 }
 
-/* "5 unfreeze: word = now + lock, f = 1." */
+/* A new box, in which block 64 is written under a lock and at once unfrozen. */
+static void check_unfrozen(const char *what, uint32_t now, uint32_t lock, const char *expected) {
+    format_box(&box);
+    accept_update("write", &box, SOCKJADE_WRITE, 64, now, lock);
+    accept_update("unfreeze", &box, SOCKJADE_UNFREEZE, 64, now, 0);
+    check_hex(what, box.answer, expected);
+}
+
+/* "5 unfreeze: .. f = 1." Its word is by document 02, Q-2: "A lock of 1 or more gets the expiry now + lock + 1; a lock of 0 stays
+ * now." */
 static void test_unfreeze(void) {
     write_block_64();
     accept_update("unfreeze", &box, SOCKJADE_UNFREEZE, 64, 1200, 0);
-    check_hex("entry unfrozen", box.answer, "A4 06 00 00 D1 07 00 00");
+    check_hex("entry unfrozen", box.answer, "A5 06 00 00 D1 07 00 00"); /* 1,200 + 500 + 1 = 1,701 */
     check_tag("tag of an unfreeze", 1, 2);
     check_hex("counts after an unfreeze", box.memory + 32, "00 00 00 00 02 00 00 00");
+    check_unfrozen("lock 1", 1200, 1, "B2 04 00 00 61 09 00 00"); /* 1,202; 2 × 1,200 + 1 = 2,401 */
+    check_unfrozen("the largest unfreeze", 2147483647, 2147483647, "FF FF FF FF FF FF FF FF"); /* both 2 × 2,147,483,647 + 1 */
+    check_unfrozen("lock 0", 1200, 0, "B0 04 00 00 61 09 00 00"); /* 1,200 */
+    check_entry("lock 0, free at once", 1200, "B0 04 00 00 61 09 00 00 00 00 00 00 00 00 00 00", SOCKJADE_FREE, 0);
 }
 
 /* "6 increment: word + value." */
@@ -112,7 +137,7 @@ static void test_increment(void) {
     write_block_64();
     accept_update("unfreeze", &box, SOCKJADE_UNFREEZE, 64, 1200, 0);
     accept_update("increment, counting", &box, SOCKJADE_INCREMENT, 64, 1300, 100);
-    check_hex("expiry grown", box.answer, "08 07 00 00 D1 07 00 00");
+    check_hex("expiry grown", box.answer, "09 07 00 00 D1 07 00 00"); /* 1,701 + 100 = 1,801 */
     check_tag("tag of an increment", 1, 3);
 }
 
@@ -162,6 +187,7 @@ static void test_identify(void) {
 void test_kinds(void) {
     test_read();
     test_entry();
+    test_stored_expiry();
     test_page();
     test_write();
     test_proof();

@@ -1,4 +1,5 @@
-/* Each number that a command can be refused with, after document 01's "Questions, in order", and the limits about it. */
+/* Each number that a command can be refused with, and the limits about it, after document 01's "Questions, in order" and document
+ * 02's Q-2. */
 #include <string.h>
 #include "box.h"
 #include "check.h"
@@ -160,25 +161,30 @@ static void test_state(void) {
     refuse_state("write a frozen block", SOCKJADE_WRITE, 1100);
     accept_update("unfreeze", &box, SOCKJADE_UNFREEZE, 0, 1200, 0);
     refuse_state("unfreeze a counting block", SOCKJADE_UNFREEZE, 1300);
-    refuse_state("write a counting block", SOCKJADE_WRITE, 1699);
-    refuse_state("increment a block that is free again", SOCKJADE_INCREMENT, 1700);
-    accept_update("write at the expiry", &box, SOCKJADE_WRITE, 0, 1700, 9);
+    refuse_state("write a counting block", SOCKJADE_WRITE, 1700); /* 1,200 + 500, in the lock's last second */
+    refuse_state("increment a block that is free again", SOCKJADE_INCREMENT, 1701);
+    accept_update("write at the expiry", &box, SOCKJADE_WRITE, 0, 1701, 9);
 }
 
 static void refuse_limit(const char *what, uint32_t kind, uint32_t value) {
     refuse_update(what, &box, make_command(kind, 0, 2147483647, value), SOCKJADE_LIMIT_EXCEEDED, 10);
 }
 
-/* "10. Is a lock written or grown at most 2,147,483,647, an expiry at most 4,294,967,294?" */
+/* "10. Is a lock written or grown at most 2,147,483,647"; and document 02, Q-2: "The expiry limit in question 10 becomes
+ * 4,294,967,295." */
 static void test_limit(void) {
     format_box(&box);
     refuse_limit("lock 2,147,483,648", SOCKJADE_WRITE, 2147483648u);
     accept_update("lock 2,147,483,646", &box, SOCKJADE_WRITE, 0, 2147483647, 2147483646);
     refuse_limit("lock grown to 2,147,483,648", SOCKJADE_INCREMENT, 2);
-    accept_update("unfreeze to 4,294,967,293", &box, SOCKJADE_UNFREEZE, 0, 2147483647, 0);
-    refuse_limit("expiry grown to 4,294,967,295", SOCKJADE_INCREMENT, 2);
-    accept_update("expiry grown to 4,294,967,294", &box, SOCKJADE_INCREMENT, 0, 2147483647, 1);
-    check_hex("the latest expiry", box.answer, "FE FF FF FF FF FF FF FF");
+    accept_update("unfreeze to 4,294,967,294", &box, SOCKJADE_UNFREEZE, 0, 2147483647, 0); /* 2,147,483,647 + 2,147,483,646 + 1 */
+    refuse_limit("expiry grown to 4,294,967,296", SOCKJADE_INCREMENT, 2);
+    accept_update("expiry grown to 4,294,967,295", &box, SOCKJADE_INCREMENT, 0, 2147483647, 1);
+    check_hex("the latest expiry", box.answer, "FF FF FF FF FF FF FF FF");
+    format_box(&box);
+    store_little_endian(box.disk + 64 * 512, 2147483648u, 4); /* a lock that no command writes, on group 0's page */
+    store_little_endian(box.disk + 64 * 512 + 4, 0, 4);
+    refuse_limit("unfreeze to 4,294,967,296", SOCKJADE_UNFREEZE, 0);
 }
 
 /* "11. Does the new salt differ from the present one?" */

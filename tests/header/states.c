@@ -71,14 +71,17 @@ static void test_shown(void) {
     check_number("state of 0", box.answer[SOCKJADE_SHOWN_SIZE], SOCKJADE_COUNTING, 2);
     check_number("state of 127", box.answer[2 * SOCKJADE_SHOWN_SIZE], SOCKJADE_FREE, 0);
     check_hex("64, 0, 127 at 1650", box.answer,
-              "01 07 00 00 00 00 00 00 00  02 32 00 00 00 00 00 00 00  00 8E F9 FF FF FF FF FF FF");
+              "01 07 00 00 00 00 00 00 00  02 33 00 00 00 00 00 00 00  00 8E F9 FF FF FF FF FF FF"); /* 1,701 - 1,650 = 51 */
     check_hex("memory after a list", box.memory + 96, "72 06 00 00 02 01 00 00");
     list_three(0, 64, 0);
-    accept_query("0, 64, 0 at 1750", make_query(3, 1750), 2, 27);
-    check_hex("0, 64, 0 at 1750", box.answer,
+    accept_query("0, 64, 0 at 1700", make_query(3, 1700), 2, 27);
+    check_hex("0, 64, 0 at 1700", box.answer,
+              "02 01 00 00 00 00 00 00 00  01 07 00 00 00 00 00 00 00  02 01 00 00 00 00 00 00 00");
+    accept_query("0, 64, 0 at 1751", make_query(3, 1751), 2, 27);
+    check_hex("0, 64, 0 at 1751", box.answer,
               "00 CE FF FF FF FF FF FF FF  01 07 00 00 00 00 00 00 00  00 CE FF FF FF FF FF FF FF");
     accept_query("0 at 2,147,483,647", make_query(1, 2147483647), 1, 9);
-    check_hex("0 at 2,147,483,647", box.answer, "00 A5 06 00 80 FF FF FF FF"); /* 1,700 - 2,147,483,647 */
+    check_hex("0 at 2,147,483,647", box.answer, "00 A6 06 00 80 FF FF FF FF"); /* 1,701 - 2,147,483,647 */
 }
 
 /* "Each group's current page is read once"; it "is the number of different groups named" */
@@ -91,7 +94,7 @@ static void test_pages(void) {
     list_three(0, 0, 0);
     accept_query("one block, as often as it goes", make_query(SOCKJADE_MOST_NUMBERS, 1650), 1, 576);
     for (size_t i = 0; i < 64; i++)
-        check_hex("one block, as often as it goes", box.answer + 9 * i, "02 32 00 00 00 00 00 00 00");
+        check_hex("one block, as often as it goes", box.answer + 9 * i, "02 33 00 00 00 00 00 00 00");
     accept_command("sync", &box, make_command(SOCKJADE_SYNC, 0, 1650, 0));
     list_three(64, 1, 64);
     accept_query("no page held", make_query(3, 1650), 2, 27);

@@ -2,6 +2,7 @@
 use crate::archive;
 
 /// A box of one or more groups with a zero salt, with the answer of the last command.
+#[derive(Clone)]
 pub struct Archive {
     pub memory: [u8; 616],
     pub disk: Vec<u8>,

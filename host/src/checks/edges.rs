@@ -1,4 +1,5 @@
-//! Document 01's edge values on the archive alone, with bytes that are written out here.
+//! Document 01's edge values, with the full seconds of document 02's Q-2, on the archive alone and with
+//! bytes that are written out here.
 use super::alone::{same, Archive};
 use super::Checked;
 
@@ -6,7 +7,10 @@ pub fn check() -> Checked {
     formatting()?;
     places()?;
     entry()?;
+    stored_expiry()?;
     zero_lock()?;
+    short_lock(1, 1202)?;
+    short_lock(2, 1203)?;
     longest_lock()?;
     script()?;
     Ok("edge values by hand".into())
@@ -57,24 +61,39 @@ fn places() -> Result<(), String> {
     same("the last entry of group 15's page", &a.disk[1039 * 512 + 504..], &[0, 0, 0, 0, 0, 0, 0, 0])
 }
 
-/// Lock 500 written at 1000, unfrozen at 1200, counting to 1700, and grown by 100 in another box.
+/// Lock 500 written at 1000, unfrozen at 1200, counting to 1701, and grown by 100 in another box.
 fn entry() -> Result<(), String> {
     let mut a = Archive::formatted(1)?;
     a.gets(4, 0, 1000, 500, 0)?;
     same("the entry written at 1000", &a.answer[..8], &[0xF4, 0x01, 0, 0, 0xD0, 0x07, 0, 0])?;
     a.shows(0, 1100, [0xF4, 0x01, 0, 0, 0xD0, 0x07, 0, 0, 0xF4, 0x01, 0, 0, 0, 0, 0, 0, 1])?;
     a.gets(5, 0, 1200, 0, 0)?;
-    same("the entry unfrozen at 1200", &a.answer[..8], &[0xA4, 0x06, 0, 0, 0xD1, 0x07, 0, 0])?;
+    same("the entry unfrozen at 1200", &a.answer[..8], &[0xA5, 0x06, 0, 0, 0xD1, 0x07, 0, 0])?;
     a.gets(5, 0, 1300, 0, 9)?;
-    a.shows(0, 1650, [0xA4, 0x06, 0, 0, 0xD1, 0x07, 0, 0, 50, 0, 0, 0, 0, 0, 0, 0, 2])?;
-    a.shows(0, 1700, [0xA4, 0x06, 0, 0, 0xD1, 0x07, 0, 0, 0, 0, 0, 0, 0, 0, 0, 0, 0])?;
-    let past = [0xA4, 0x06, 0, 0, 0xD1, 0x07, 0, 0, 0xCE, 0xFF, 0xFF, 0xFF, 0xFF, 0xFF, 0xFF, 0xFF, 0];
-    a.shows(0, 1750, past)?;
+    a.shows(0, 1650, [0xA5, 0x06, 0, 0, 0xD1, 0x07, 0, 0, 51, 0, 0, 0, 0, 0, 0, 0, 2])?;
+    a.shows(0, 1700, [0xA5, 0x06, 0, 0, 0xD1, 0x07, 0, 0, 1, 0, 0, 0, 0, 0, 0, 0, 2])?;
+    a.shows(0, 1701, [0xA5, 0x06, 0, 0, 0xD1, 0x07, 0, 0, 0, 0, 0, 0, 0, 0, 0, 0, 0])?;
     let mut b = Archive::formatted(1)?;
     b.gets(4, 0, 1000, 500, 0)?;
     b.gets(5, 0, 1200, 0, 0)?;
     b.gets(6, 0, 1200, 100, 0)?;
-    same("the entry grown by 100", &b.answer[..8], &[0x08, 0x07, 0, 0, 0xD1, 0x07, 0, 0])
+    same("the entry grown by 100", &b.answer[..8], &[0x09, 0x07, 0, 0, 0xD1, 0x07, 0, 0])
+}
+
+/// Expiry 1700, stored on the disk before Q-2, keeps its word through an update of another block and a
+/// sync; in another box it grows by 100.
+fn stored_expiry() -> Result<(), String> {
+    let mut a = Archive::formatted(1)?;
+    a.disk[32_768..][..8].copy_from_slice(&[0xA4, 0x06, 0, 0, 0xD1, 0x07, 0, 0]);
+    let mut b = a.clone();
+    a.shows(0, 1650, [0xA4, 0x06, 0, 0, 0xD1, 0x07, 0, 0, 50, 0, 0, 0, 0, 0, 0, 0, 2])?;
+    a.gets(4, 1, 1650, 7, 0)?;
+    a.gets(7, 0, 1650, 0, 0)?;
+    a.shows(0, 1700, [0xA4, 0x06, 0, 0, 0xD1, 0x07, 0, 0, 0, 0, 0, 0, 0, 0, 0, 0, 0])?;
+    let past = [0xA4, 0x06, 0, 0, 0xD1, 0x07, 0, 0, 0xCE, 0xFF, 0xFF, 0xFF, 0xFF, 0xFF, 0xFF, 0xFF, 0];
+    a.shows(0, 1750, past)?;
+    b.gets(6, 0, 1650, 100, 0)?;
+    same("the stored expiry grown by 100", &b.answer[..8], &[0x08, 0x07, 0, 0, 0xD1, 0x07, 0, 0])
 }
 
 /// Lock 0 unfrozen at 1200 is free at 1200.
@@ -87,21 +106,40 @@ fn zero_lock() -> Result<(), String> {
     a.gets(4, 5, 1200, 1, 0)
 }
 
-/// Lock 2,147,483,647 passes and 2,147,483,648 gets 10.
+/// A lock of one or two seconds, unfrozen at 1200: counting up to the second before its expiry, and free
+/// at it.
+fn short_lock(lock: u32, expiry: u32) -> Result<(), String> {
+    let mut a = Archive::formatted(1)?;
+    let low = expiry as u8;
+    a.gets(4, 5, 1000, lock, 0)?;
+    a.gets(5, 5, 1200, 0, 0)?;
+    a.gets(4, 5, expiry - 1, 0, 9)?;
+    a.shows(5, expiry - 1, [low, 0x04, 0, 0, 0xD1, 0x07, 0, 0, 1, 0, 0, 0, 0, 0, 0, 0, 2])?;
+    a.shows(5, expiry, [low, 0x04, 0, 0, 0xD1, 0x07, 0, 0, 0, 0, 0, 0, 0, 0, 0, 0, 0])?;
+    a.gets(4, 5, expiry, 0, 0)
+}
+
+/// Lock 2,147,483,647 passes and 2,147,483,648 gets 10. Unfrozen as late as can be, it counts to the
+/// latest expiry, which grows no more.
 fn longest_lock() -> Result<(), String> {
     let mut a = Archive::formatted(1)?;
     a.gets(4, 0, 1000, 2_147_483_648, 10)?;
     a.gets(4, 0, 1000, 2_147_483_647, 0)?;
-    same("the longest lock", &a.answer[..8], &[0xFF, 0xFF, 0xFF, 0x7F, 0xD0, 0x07, 0, 0])
+    same("the longest lock", &a.answer[..8], &[0xFF, 0xFF, 0xFF, 0x7F, 0xD0, 0x07, 0, 0])?;
+    a.gets(5, 0, 2_147_483_647, 0, 0)?;
+    a.gets(6, 0, 2_147_483_647, 1, 10)?;
+    let latest = [0xFF, 0xFF, 0xFF, 0xFF, 0xD1, 0x07, 0, 0, 0, 0, 0, 0x80, 0, 0, 0, 0, 2];
+    a.shows(0, 2_147_483_647, latest)
 }
 
-/// The numbers of document 01's script.
+/// The numbers of document 01's script, by document 02, and that the block is free a second later.
 fn script() -> Result<(), String> {
     let mut a = Archive::formatted(1)?;
     a.gets(4, 0, 1000, 500, 0)?;
     a.gets(5, 0, 1200, 0, 0)?;
     a.gets(4, 0, 1699, 9, 9)?;
-    a.shows(0, 1699, [0xA4, 0x06, 0, 0, 0xD1, 0x07, 0, 0, 1, 0, 0, 0, 0, 0, 0, 0, 2])?;
-    a.gets(4, 0, 1700, 9, 0)?;
-    a.gets(5, 64, 1700, 0, 5)
+    a.shows(0, 1699, [0xA5, 0x06, 0, 0, 0xD1, 0x07, 0, 0, 2, 0, 0, 0, 0, 0, 0, 0, 2])?;
+    a.gets(4, 0, 1700, 9, 9)?;
+    a.gets(5, 64, 1700, 0, 5)?;
+    a.gets(4, 0, 1701, 9, 0)
 }

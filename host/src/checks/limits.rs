@@ -6,25 +6,30 @@ use super::Checked;
 const HIGHEST_COUNT: u32 = u32::MAX - 1;
 
 /// Kind, the entry's word and stamp, now and value, and the number by hand.
-const UPDATES: [(u32, u32, u32, u32, u32, u32); 19] = [
+const UPDATES: [(u32, u32, u32, u32, u32, u32); 24] = [
     (4, 0, 1, 0, 2_147_483_647, 0),
     (4, 0, 1, 0, 2_147_483_648, 10),
     (4, 1, 1, 0, 5, 9),
     (4, 1, 1, 1, 5, 0),
     (4, 1, 0, 1, 5, 9),
     (5, 1, 1, 0, 0, 9),
+    (5, 0, 0, 2_147_483_647, 0, 0),
     (5, 2_147_483_647, 0, 2_147_483_647, 0, 0),
     (5, 2_147_483_648, 0, 2_147_483_647, 0, 10),
     (5, 2_147_483_648, 0, 0, 0, 0),
     (5, 4_294_967_294, 0, 0, 0, 0),
     (5, 4_294_967_294, 0, 1, 0, 10),
+    (5, 4_294_967_295, 0, 0, 0, 10),
     (6, 1, 1, 1, 0, 9),
     (6, 2_147_483_646, 0, 0, 1, 0),
     (6, 2_147_483_647, 0, 0, 1, 10),
     (6, 2_147_483_648, 0, 0, 0, 10),
-    (6, 4_294_967_293, 1, 0, 1, 0),
-    (6, 4_294_967_294, 1, 0, 1, 10),
-    (6, 4_294_967_295, 1, 0, 0, 10),
+    (6, 4_294_967_294, 1, 0, 1, 0),
+    (6, 4_294_967_294, 1, 0, 2, 10),
+    (6, 4_294_967_295, 1, 0, 0, 0),
+    (6, 4_294_967_295, 1, 0, 1, 10),
+    (6, 2, 1, 1, 4_294_967_293, 0),
+    (6, 2, 1, 1, 4_294_967_294, 10),
     (6, 2, 1, 1, 4_294_967_295, 10),
 ];
 
@@ -61,6 +66,9 @@ pub fn check(pair: &mut Pair) -> Checked {
         pair.expect(&call, number)?;
     }
     entries(pair)?;
+    for lock in [0, 1, 2, 500, LATEST - 1, LATEST] {
+        [0, 1000, LATEST - 2, LATEST - 1, LATEST].into_iter().try_for_each(|now| unfrozen(pair, lock, now))?;
+    }
     Ok(format!("limits: {} calls", pair.index - start))
 }
 
@@ -89,11 +97,11 @@ fn blocks(pair: &mut Pair, groups: u8) -> Result<(), String> {
             let call = pair.good(kind, block, 7, 0);
             pair.expect(&call, if block < end { 0 } else { 5 })?;
         }
-        let call = pair.good(4, block, 12, 1);
+        let call = pair.good(4, block, 13, 1);
         pair.expect(&call, if block < end { 0 } else { 5 })?;
         // The later kinds ignore the block.
         for kind in [7, 8, 9, 10] {
-            pair.expect(&Call::new(kind, block, 12 + kind, 200 + kind), 0)?;
+            pair.expect(&Call::new(kind, block, 13 + kind, 200 + kind), 0)?;
         }
         pair.load(&memory, &disk);
     }
@@ -138,8 +146,9 @@ fn counts(pair: &mut Pair, count: u32) -> Result<(), String> {
 /// entry, and what questions 9 and 10 say to each update.
 fn entries(pair: &mut Pair) -> Result<(), String> {
     for now in [0, 1000, LATEST] {
-        let words = [0, 1, now.saturating_sub(1), now, now + 1, LATEST - 1, LATEST, LATEST + 1, u32::MAX - LATEST];
-        for word in words.into_iter().chain([u32::MAX - 1 - now, u32::MAX - now, u32::MAX - 1, u32::MAX]) {
+        let words = [0, 1, 2, now.saturating_sub(1), now, now + 1, LATEST - 1, LATEST, LATEST + 1, u32::MAX - LATEST];
+        let late = [u32::MAX - 2 - now, u32::MAX - 1 - now, u32::MAX - now, u32::MAX - 1, u32::MAX];
+        for word in words.into_iter().chain(late) {
             for stamp in [0, 1, 2 * now, 2 * now + 1, u32::MAX - 1, u32::MAX] {
                 let (memory, disk) = box_of(1, now, word, stamp);
                 for value in [0, 1, LATEST - 1, LATEST, LATEST + 1, u32::MAX - 1, u32::MAX] {
@@ -150,6 +159,25 @@ fn entries(pair: &mut Pair) -> Result<(), String> {
                     }
                 }
             }
+        }
+    }
+    Ok(())
+}
+
+/// Document 02's Q-2, at the times about the end of an unfrozen lock: a block with a lock of 1 or more is
+/// held up to and including the time of the unfreeze plus the lock, and one with lock 0 not at all.
+fn unfrozen(pair: &mut Pair, lock: u32, now: u32) -> Result<(), String> {
+    let end = now + lock;
+    for time in [now, end.saturating_sub(1), end, end + 1] {
+        if !(now..=LATEST).contains(&time) {
+            continue;
+        }
+        let (memory, disk) = box_of(1, now, lock, 0);
+        pair.load(&memory, &disk);
+        let (grown, written) = if lock > 0 && time <= end { (0, 9) } else { (9, 0) };
+        for (kind, time, number) in [(5, now, 0), (2, time, 0), (6, time, grown), (4, time, written)] {
+            let call = pair.good(kind, 9, time, 0);
+            pair.expect(&call, number)?;
         }
     }
     Ok(())

@@ -98,7 +98,7 @@ impl<'a> Server<'a> {
         match self.random.below(12) {
             0 => LIMITS[self.random.below(LIMITS.len())],
             1 => self.random.next() as u32,
-            2 => 0,
+            2 | 3 => self.random.below(3) as u32,
             _ => self.random.below(60) as u32,
         }
     }

@@ -87,13 +87,13 @@ const RIGHT: [(&[u8], &[u8]); 12] = [
 
 const EXAMPLE: &[u8] = b"4 0 1000 500\n5 0 1200 0\n4 0 1699 9\n2 0 1699 0\n4 0 1700 9\n5 64 1700 0\n";
 const EXAMPLE_PRINTED: &[u8] =
-    b"4 0 1000 0 0 0\n5 0 1200 0 0 0\n4 0 1699 9 0 0\n2 0 1699 0 2 1\n4 0 1700 0 0 0\n5 64 1700 5 0 0\n";
+    b"4 0 1000 0 0 0\n5 0 1200 0 0 0\n4 0 1699 9 0 0\n2 0 1699 0 2 2\n4 0 1700 9 0 0\n5 64 1700 5 0 0\n";
 
-/// The longest times left: the expiry is 4,294,967,294, then at the end of time, and a blank entry's.
+/// The longest times left: the expiry is 4,294,967,295, then at the end of time, and a blank entry's.
 const EXTREMES: &[u8] =
     b"4 1 1000 500\n5 1 1200 0\n6 1 1200 4294965594\n2 1 1200 0\n2 1 2147483647 0\n2 2 2147483647 0\n";
-const EXTREMES_PRINTED: &[u8] = b"4 1 1000 0 0 0\n5 1 1200 0 0 0\n6 1 1200 0 0 0\n2 1 1200 0 2 4294966094\n\
-    2 1 2147483647 0 2 2147483647\n2 2 2147483647 0 0 -2147483647\n";
+const EXTREMES_PRINTED: &[u8] = b"4 1 1000 0 0 0\n5 1 1200 0 0 0\n6 1 1200 0 0 0\n2 1 1200 0 2 4294966095\n\
+    2 1 2147483647 0 2 2147483648\n2 2 2147483647 0 0 -2147483647\n";
 
 pub fn check(tester: &mut Tester) -> Checked {
     let began = tester.runs;

@@ -11,7 +11,7 @@ use std::io::Write;
 const WEIGHTS: [usize; 10] = [9, 17, 3, 22, 16, 15, 5, 4, 3, 3];
 const UNKNOWN: [u32; 8] = [0, 11, 255, 256 + 1, 256 + 4, 65_536 + 2, LATEST + 5, u32::MAX];
 const LIMITS: [u32; 8] = [0, 1, LATEST - 1, LATEST, LATEST + 1, LATEST + 2, u32::MAX - 1, u32::MAX];
-const LAST_EXPIRY: i64 = 4_294_967_294;
+const LAST_EXPIRY: i64 = 4_294_967_295;
 /// Updates of moderate values go to the blocks below this one; those near a limit, which may lock a
 /// block for good, go to the others.
 const FEW: usize = 6;
@@ -103,7 +103,7 @@ impl<'a> Maker<'a> {
     }
 
     fn value(&mut self) -> u32 {
-        let most = [1, 1, 10, 60, 60, 60, 60, 500, 500, 2000][self.random.below(10)];
+        let most = [1, 3, 10, 60, 60, 60, 60, 500, 500, 2000][self.random.below(10)];
         self.random.below(most) as u32
     }
 
