@@ -24,7 +24,7 @@ use Rattle.machine.specs.Question.{refusal}
 use Rattle.machine.specs.Step.{step}
 use Rattle.machine.specs.Claims.{ByteBox}
 use Rattle.machine.specs.Protection.{CountingTo}
-use Rattle.machine.specs.Expiry.{CommandLeaves}
+use Rattle.machine.specs.Expiry.{CommandKeepsEntry}
 use Rattle.machine.specs.Example.{plain, start, unfreezing, unfrozenBox, showingLast, lastBox, showingFree, syncingUnfrozen, countingStart, ExpiryMet}
 use Rattle.machine.specs.Example.{CountingMet}
 use Rattle.machine.proofs.QuestionLaw.{asks, no-seventh}
@@ -55,9 +55,9 @@ state-of {time} {counted} {holds} {e} {d} {s} h now r =
     byte-of (step base s (plain 2 now) .answer) (entrySize + timeLeftSize) _ (state-answer base-proper s (plain 2 now) refl r)
     ∙ ap (λ (x : PageEntry). stateNumber (state now x)) (h .current .written)
 
--- an entry shown leaves the block
-leaves-shown : (s : Box) (now : ℕ) → CommandLeaves base 0 s (plain 2 now)
-leaves-shown s now =
+-- an entry shown keeps the entry
+entry-kept : (s : Box) (now : ℕ) → CommandKeepsEntry base 0 s (plain 2 now)
+entry-kept s now =
     record { not-incremented = λ a k b. omega arith; not-written = λ a k b. omega arith; page-stays = λ a k e. omega arith }
 
 unfreezing-bytes : AreBytes (unfreezing .proof)
@@ -86,7 +86,7 @@ expiry-met =
       lock = ap (λ (e : PageEntry). e .word) (known-start .current .written);
       on-disk = known-start .on-disk .written ∙ sym (known-start .current .written);
       none-lost = (λ a k e. omega arith, (λ a k e. omega arith, tt));
-      leaves = (leaves-shown unfrozenBox 1700, (leaves-shown lastBox 1701, tt));
+      entry-stays = (entry-kept unfrozenBox 1700, (entry-kept lastBox 1701, tt));
       accepted = (step-number base-proper unfrozenBox showingLast ∙ last-served, (step-number base-proper lastBox showingFree ∙ free-served, tt));
       counting = state-of known-unfrozen 1700 last-served;
       free = state-of known-last 1701 free-served;
@@ -94,15 +94,15 @@ expiry-met =
 
 -- ---- a block that counts at the start
 
-syncing-served : refusal base unfrozenBox syncingUnfrozen ≡ 0
-syncing-served = sync-served known-unfrozen 1200 (lit≤ tt) (lit≤ tt)
+syncing-unfrozen-served : refusal base unfrozenBox syncingUnfrozen ≡ 0
+syncing-unfrozen-served = sync-served known-unfrozen 1200 (lit≤ tt) (lit≤ tt)
 
-known-counting : Known 1200 2 none (entry 1701 2001) (entry 1701 2001) countingStart
+known-counting-start : Known 1200 2 none (entry 1701 2001) (entry 1701 2001) countingStart
 unfolding countingStart
-known-counting = sync-known known-unfrozen 1200 syncing-served
+known-counting-start = sync-known known-unfrozen 1200 syncing-unfrozen-served
 
-showing-served : refusal base countingStart showingLast ≡ 0
-showing-served = entry-served known-counting 1700 (lit≤ tt) (lit≤ tt)
+showing-counting-served : refusal base countingStart showingLast ≡ 0
+showing-counting-served = entry-served known-counting-start 1700 (lit≤ tt) (lit≤ tt)
 
 counting-bytes : ByteBox countingStart
 unfolding countingStart unfrozenBox
@@ -110,23 +110,23 @@ counting-bytes =
     let zeros = repeated-below 256 (answerSize base) 0 (lit< tt) in
     let after = accepted-bytes base-proper start unfreezing unfreezing-served start-bytes
     (record { content = below-none 256 (lit< tt); proof = unfreezing-bytes; answer = zeros }) in
-    accepted-bytes base-proper unfrozenBox syncingUnfrozen syncing-served (after .box)
+    accepted-bytes base-proper unfrozenBox syncingUnfrozen syncing-unfrozen-served (after .box)
     (record { content = below-none 256 (lit< tt); proof = below-none 256 (lit< tt); answer = zeros })
     .box
 
 pub counting-met : CountingMet
 unfolding groupOf placeOf kindNumbered asks flag
 counting-met =
-    let on-disk = known-counting .on-disk .written in
+    let on-disk = known-counting-start .on-disk .written in
     record {
       bytes = counting-bytes .disk;
-      none-held = known-counting .held-is;
+      none-held = known-counting-start .held-is;
       unforged = (λ y. absurd (no-seventh base-proper Entry countingStart showingLast refl refl y), tt);
-      last-time = known-counting .last;
+      last-time = known-counting-start .last;
       start-entry = on-disk;
       protected =
           CountingTo (ap (λ (e : PageEntry). flag (e .stamp)) on-disk)
-          (omega (arith, known-counting .last, ap (λ (e : PageEntry). e .word) on-disk)) (omega (arith, ap (λ (e : PageEntry). e .word) on-disk));
+          (omega (arith, known-counting-start .last, ap (λ (e : PageEntry). e .word) on-disk)) (omega (arith, ap (λ (e : PageEntry). e .word) on-disk));
       among =
           record {
             earlier = [];
@@ -134,7 +134,7 @@ counting-met =
             split = refl;
             kind = refl;
             block = refl;
-            accepted = step-number base-proper countingStart showingLast ∙ showing-served;
+            accepted = step-number base-proper countingStart showingLast ∙ showing-counting-served;
           };
-      shown = entry-answers known-counting 1700 showing-served (record { word = lit< tt; stamp = lit< tt });
+      shown = entry-answers known-counting-start 1700 showing-counting-served (record { word = lit< tt; stamp = lit< tt });
     }

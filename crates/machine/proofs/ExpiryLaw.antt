@@ -28,7 +28,7 @@ use Rattle.machine.specs.Step.{step, Accepted}
 use Rattle.machine.specs.Run.{Event, Given, Queried, Throughout}
 use Rattle.machine.specs.Protection.{startEntry}
 use Rattle.machine.specs.NotFree.{NotShownFree}
-use Rattle.machine.specs.Expiry.{Unfreezes, PageStays, LockStays, NoneLost, OnDisk, Leaves, ShownFree}
+use Rattle.machine.specs.Expiry.{Unfreezes, PageStays, LockStays, NoneLost, OnDisk, EntryStays, ShownFree}
 use Rattle.machine.proofs.KindLaw.{unfreeze-kind, write-number, increment-number}
 use Rattle.machine.proofs.QuestionLaw.{all-yes}
 use Rattle.machine.proofs.StepLaw.{accepts}
@@ -41,7 +41,7 @@ use Rattle.machine.proofs.KeptLaw.{begun-kept}
 use Rattle.machine.proofs.ShownLaw.{run-kept, accepted-kept}
 use Rattle.machine.proofs.AlikeLaw.{fair}
 use Rattle.machine.proofs.NotFreeLaw.{free-number, state-shown-as, event-not-free}
-use Rattle.machine.proofs.TrackedLaw.{Tracked, Stays, run-tracked}
+use Rattle.machine.proofs.TrackedLaw.{Tracked, StaysKnown, run-tracked}
 
 -- a block that may be written is found free
 found-free : (lock now : ℕ) (e : PageEntry) → allowed (Write lock) (state now e) ≡ true → Says now e Free
@@ -63,7 +63,7 @@ EndsBy bound t e = (flag (e .stamp) ≡ unfrozenFlag) × (e .word ≤ bound)
 
 -- γ is any proper geometry
 module _ {γ : Geometry} (σ : Proper γ) where
-  counts-stays : (b bound : ℕ) → Stays γ b (CountsTo bound) (PageStays γ b)
+  counts-stays : (b bound : ℕ) → StaysKnown γ b (CountsTo bound) (PageStays γ b)
   counts-stays b bound =
       record {
         later = λ t now e l h early. h (omega arith);
@@ -77,14 +77,14 @@ module _ {γ : Geometry} (σ : Proper γ) where
       counts-on Unfreeze now e may h early = not-again now e may (h .0)
       counts-on (Increment value) now e may h early = (ap flag (grown-stamp value now e) ∙ h .0, omega (arith, grown-word value now e, h .1))
 
-  ends-stays : (b bound : ℕ) → Stays γ b (EndsBy bound) (Leaves γ b)
-  ends-stays b bound = record { later = λ t now e l h. h; update = left-alone; page = λ s c i. i .page-stays }
+  ends-stays : (b bound : ℕ) → StaysKnown γ b (EndsBy bound) (EntryStays γ b)
+  ends-stays b bound = record { later = λ t now e l h. h; update = kept-by; page = λ s c i. i .page-stays }
     where
-      left-alone : (s : Box) (c : Command) (u : Update) (e : PageEntry) → Leaves γ b s (Given c) → Accepted γ s c → kindOf c ≡ Change u → c .block ≡ b
+      kept-by : (s : Box) (c : Command) (u : Update) (e : PageEntry) → EntryStays γ b s (Given c) → Accepted γ s c → kindOf c ≡ Change u → c .block ≡ b
           → allowed u (state (c .now) e) ≡ true → EndsBy bound (c .now) e → EndsBy bound (c .now) (updated u (c .now) e)
-      left-alone s c (Write lock) e i a k here may h = absurd (i .not-written a (write-number (c .kind) (c .value) lock k) here)
-      left-alone s c Unfreeze e i a k here may h = not-again (c .now) e may (h .0)
-      left-alone s c (Increment value) e i a k here may h = absurd (i .not-incremented a (increment-number (c .kind) (c .value) value k) here)
+      kept-by s c (Write lock) e i a k here may h = absurd (i .not-written a (write-number (c .kind) (c .value) lock k) here)
+      kept-by s c Unfreeze e i a k here may h = not-again (c .now) e may (h .0)
+      kept-by s c (Increment value) e i a k here may h = absurd (i .not-incremented a (increment-number (c .kind) (c .value) value k) here)
 
   module _ (s : Box) (c : Command) (es : List Event) (x : Unfreezes γ s c es) where
     passes : refusal γ s c ≡ 0
@@ -113,15 +113,15 @@ module _ {γ : Geometry} (σ : Proper γ) where
 
     -- ---- before the expiry
 
-    module _ (Held : ℕ → Type 0) (before : (now : ℕ) → Held now → now < expiryAt (c .now) (currentEntry γ s (c .block) .word)) where
-      none-lost : Throughout γ (PageStays γ (c .block)) (step γ s c .box) es → Throughout γ (NotShownFree γ (c .block) Held) (step γ s c .box) es
+    module _ (during : ℕ → Type 0) (before : (now : ℕ) → during now → now < expiryAt (c .now) (currentEntry γ s (c .block) .word)) where
+      none-lost : Throughout γ (PageStays γ (c .block)) (step γ s c .box) es → Throughout γ (NotShownFree γ (c .block) during) (step γ s c .box) es
       none-lost stays =
           let b = c .block in
           let e = currentEntry γ s b in
           let bound = expiryAt (c .now) (e .word) in
-          run-tracked σ b (CountsTo bound) (PageStays γ b) (counts-stays b bound) (NotShownFree γ b Held)
+          run-tracked σ b (CountsTo bound) (PageStays γ b) (counts-stays b bound) (NotShownFree γ b during)
           (λ t event h.
-          state-shown-as σ b (λ shown. shown ≡ stateNumber Free → ⊥) Held t event
+          state-shown-as σ b (λ shown. shown ≡ stateNumber Free → ⊥) during t event
           (λ now q inside l f.
           let early = before now l in
           let counts = h .entry (omega (arith, q .later)) in
@@ -131,8 +131,8 @@ module _ {γ : Geometry} (σ : Proper γ) where
           (tracked (CountsTo bound) (λ early. (unfrozen-flag (c .now) e, omega (arith, unfrozen-word (c .now) e))))
 
     -- a watch of the block from the unfreeze on
-    unfreezing : Watch
-    unfreezing =
+    unfrozenWatch : Watch
+    unfrozenWatch =
         record {
           block = c .block;
           content = block γ (s .disk) (physical γ (c .block));
@@ -142,9 +142,9 @@ module _ {γ : Geometry} (σ : Proper γ) where
           forever = false;
         }
 
-    entry-safe : Safe unfreezing (currentEntry γ s (c .block))
-    unfolding unfreezing
-    entry-safe =
+    unfrozen-safe : Safe unfrozenWatch (currentEntry γ s (c .block))
+    unfolding unfrozenWatch
+    unfrozen-safe =
         let may = changes σ Unfreeze s c (all-yes σ (Change Unfreeze) s c kind passes) .may in
         let frozen : Says (c .now) (broughtEntry γ c) Frozen =
         subst (Says (c .now) (broughtEntry γ c)) (allowed-unfreeze (state (c .now) (broughtEntry γ c)) may) (says (c .now) (broughtEntry γ c)) in
@@ -155,51 +155,51 @@ module _ {γ : Geometry} (σ : Proper γ) where
           locked = inl (ap (λ (e : PageEntry). flag (e .stamp)) (sym found) ∙ frozen, inl (omega arith));
         }
 
-    box-safe : startEntry γ s (c .block) ≡ currentEntry γ s (c .block) → SafeBox γ unfreezing s
-    unfolding unfreezing
+    box-safe : startEntry γ s (c .block) ≡ currentEntry γ s (c .block) → SafeBox γ unfrozenWatch s
+    unfolding unfrozenWatch
     box-safe same =
         record {
-          disk = record { content = refl; page = subst (Safe unfreezing) (sym same) entry-safe };
+          disk = record { content = refl; page = subst (Safe unfrozenWatch) (sym same) unfrozen-safe };
           held =
               λ n e.
-              subst (λ (p : List ℕ). Safe unfreezing (entryAt p (placeOf γ (c .block)))) (current-held σ s (groupOf γ (c .block)) e) entry-safe;
+              subst (λ (p : List ℕ). Safe unfrozenWatch (entryAt p (placeOf γ (c .block)))) (current-held σ s (groupOf γ (c .block)) e) unfrozen-safe;
         }
 
-    kept : startEntry γ s (c .block) ≡ currentEntry γ s (c .block) → Kept γ unfreezing (step γ s c .box)
-    unfolding unfreezing
+    kept : startEntry γ s (c .block) ≡ currentEntry γ s (c .block) → Kept γ unfrozenWatch (step γ s c .box)
+    unfolding unfrozenWatch
     kept same =
-        accepted-kept σ unfreezing (Change Unfreeze) s c kind passes (x .unforged .0, λ r k b f. false≢true f)
-        (λ q. begun-kept σ unfreezing s (c .now) q refl (box-safe same))
+        accepted-kept σ unfrozenWatch (Change Unfreeze) s c kind passes (x .unforged .0, λ r k b f. false≢true f)
+        (λ q. begun-kept σ unfrozenWatch s (c .now) q refl (box-safe same))
 
-    module _ (Held : ℕ → Type 0) (before : (now : ℕ) → Held now → now < expiryAt (c .now) (currentEntry γ s (c .block) .word)) where
+    module _ (during : ℕ → Type 0) (before : (now : ℕ) → during now → now < expiryAt (c .now) (currentEntry γ s (c .block) .word)) where
       earlier : (t : Box) (e : Event)
-          → NotShownFree γ (c .block) (λ now. now < expiryAt (c .now) (currentEntry γ s (c .block) .word)) t e → NotShownFree γ (c .block) Held t e
+          → NotShownFree γ (c .block) (λ now. now < expiryAt (c .now) (currentEntry γ s (c .block) .word)) t e → NotShownFree γ (c .block) during t e
       earlier t (Given d) h = λ a k b l. h a k b (before (d .now) l)
       earlier t (Queried q) h = λ a i inside b l. h a i inside b (before (q .now) l)
 
-      on-disk : startEntry γ s (c .block) ≡ currentEntry γ s (c .block) → Throughout γ (NotShownFree γ (c .block) Held) (step γ s c .box) es
-      unfolding unfreezing
+      on-disk : startEntry γ s (c .block) ≡ currentEntry γ s (c .block) → Throughout γ (NotShownFree γ (c .block) during) (step γ s c .box) es
+      unfolding unfrozenWatch
       on-disk same =
-          run-kept σ (NotShownFree γ (c .block) Held) unfreezing (λ t e h. earlier t e (event-not-free σ unfreezing t e h)) (step γ s c .box) es
-          (fair σ unfreezing (step γ s c .box) es (x .unforged .1) (λ f. absurd (false≢true f))) (kept same)
+          run-kept σ (NotShownFree γ (c .block) during) unfrozenWatch (λ t e h. earlier t e (event-not-free σ unfrozenWatch t e h)) (step γ s c .box) es
+          (fair σ unfrozenWatch (step γ s c .box) es (x .unforged .1) (λ f. absurd (false≢true f))) (kept same)
 
-      pub unfrozen-not-free : LockStays γ s c es → Throughout γ (NotShownFree γ (c .block) Held) (step γ s c .box) es
-      unfrozen-not-free (NoneLost stays) = none-lost Held before stays
+      pub unfrozen-not-free : LockStays γ s c es → Throughout γ (NotShownFree γ (c .block) during) (step γ s c .box) es
+      unfrozen-not-free (NoneLost stays) = none-lost during before stays
       unfrozen-not-free (OnDisk same) = on-disk same
 
     -- ---- from the expiry on
 
-    pub unfrozen-then-free : (Past : ℕ → Type 0) → ((now : ℕ) → Past now → expiryAt (c .now) (currentEntry γ s (c .block) .word) ≤ now)
-        → Throughout γ (Leaves γ (c .block)) (step γ s c .box) es → Throughout γ (ShownFree γ (c .block) Past) (step γ s c .box) es
-    unfrozen-then-free Past from leaves =
+    pub unfrozen-then-free : (during : ℕ → Type 0) → ((now : ℕ) → during now → expiryAt (c .now) (currentEntry γ s (c .block) .word) ≤ now)
+        → Throughout γ (EntryStays γ (c .block)) (step γ s c .box) es → Throughout γ (ShownFree γ (c .block) during) (step γ s c .box) es
+    unfrozen-then-free during from stays =
         let b = c .block in
         let e = currentEntry γ s b in
         let bound = expiryAt (c .now) (e .word) in
-        run-tracked σ b (EndsBy bound) (Leaves γ b) (ends-stays b bound) (ShownFree γ b Past)
+        run-tracked σ b (EndsBy bound) (EntryStays γ b) (ends-stays b bound) (ShownFree γ b during)
         (λ t event h.
-        state-shown-as σ b (λ shown. shown ≡ stateNumber Free) Past t event
+        state-shown-as σ b (λ shown. shown ≡ stateNumber Free) during t event
         (λ now q inside l.
         let past = from now l in
         ap stateNumber
         (state-free now (currentEntry γ t b) (frozen-no (currentEntry γ t b .stamp) (h .entry .0)) (omega (arith, h .entry .1)))))
-        (step γ s c .box) es (x .unforged .1) leaves (tracked (EndsBy bound) (unfrozen-flag (c .now) e, omega (arith, unfrozen-word (c .now) e)))
+        (step γ s c .box) es (x .unforged .1) stays (tracked (EndsBy bound) (unfrozen-flag (c .now) e, omega (arith, unfrozen-word (c .now) e)))

@@ -168,9 +168,9 @@ module _ {γ : Geometry} (σ : Proper γ) where
 
   pub unfrozen-then-free : UnfrozenThenFree γ
   unfolding UnfrozenThenFree
-  unfrozen-then-free s c es x leaves =
+  unfrozen-then-free s c es x stays =
       let lock = lockOf γ s (c .block) in
-      expiry.unfrozen-then-free σ s c es x _ (λ now l. omega (arith, expiry-some (c .now) lock (x .lock))) leaves
+      expiry.unfrozen-then-free σ s c es x _ (λ now l. omega (arith, expiry-some (c .now) lock (x .lock))) stays
 
 -- ---- specs/EdgeValues.antt and specs/Example.antt
 

@@ -40,14 +40,14 @@ module _ (γ : Geometry) (b : ℕ) (Q : ℕ → PageEntry → Type 0) where
     pub entry : Q (lastTime γ (s .memory)) (currentEntry γ s b)
 
   -- it stays known as time goes on, and when an event that In allows updates the block
-  pub record Stays (In : Box → Event → Type 0) : Type 0 where
+  pub record StaysKnown (In : Box → Event → Type 0) : Type 0 where
     pub later : (t now : ℕ) (e : PageEntry) → t ≤ now → Q t e → Q now e
     pub update : (s : Box) (c : Command) (u : Update) (e : PageEntry) → In s (Given c) → Accepted γ s c → kindOf c ≡ Change u → c .block ≡ b
         → allowed u (state (c .now) e) ≡ true → Q (c .now) e → Q (c .now) (updated u (c .now) e)
     pub page : (s : Box) (c : Command) → In s (Given c) → PageStays γ b s (Given c)
 
 -- γ is any proper geometry
-module _ {γ : Geometry} (σ : Proper γ) (b : ℕ) (Q : ℕ → PageEntry → Type 0) (In : Box → Event → Type 0) (stays : Stays γ b Q In) where
+module _ {γ : Geometry} (σ : Proper γ) (b : ℕ) (Q : ℕ → PageEntry → Type 0) (In : Box → Event → Type 0) (stays : StaysKnown γ b Q In) where
   tracked-command : (s : Box) (c : Command) → refusal γ s c ≡ 0 → Unforged γ s (Given c) → In s (Given c) → Tracked γ b Q s
       → Tracked γ b Q (step γ s c .box)
   tracked-command s c r f i h =

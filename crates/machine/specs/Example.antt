@@ -24,7 +24,7 @@ use Rattle.machine.specs.Format.{format}
 use Rattle.machine.specs.Query.{Query, queryOf, numbers, shownSize, queryStep, AcceptedQuery}
 use Rattle.machine.specs.Run.{Event, Given, Queried, run, Throughout}
 use Rattle.machine.specs.Protection.{Unforged, startContent, startEntry, Protected, ShownIn}
-use Rattle.machine.specs.Expiry.{lockOf, Unfreezes, PageStays, Leaves}
+use Rattle.machine.specs.Expiry.{lockOf, Unfreezes, PageStays, EntryStays}
 
 -- an update of block 0 that brings the current page with its tag
 abbrev pub updating : Box → ℕ → ℕ → ℕ → List ℕ → Command
@@ -237,7 +237,7 @@ pub record ExpiryMet : Type 0 where
   -- both ways in which the lock stays, and nobody increments the block
   pub on-disk : startEntry base start 0 ≡ currentEntry base start 0
   pub none-lost : Throughout base (PageStays base 0) unfrozenBox toExpiry
-  pub leaves : Throughout base (Leaves base 0) unfrozenBox toExpiry
+  pub entry-stays : Throughout base (EntryStays base 0) unfrozenBox toExpiry
   pub accepted : Throughout base IsAccepted unfrozenBox toExpiry
   -- at 1700 it is shown as counting, at 1701 as free
   pub counting : getD (step base unfrozenBox showingLast .answer) (entrySize + timeLeftSize) 0 ≡ 2

@@ -59,14 +59,14 @@ module _ (γ : Geometry) where
   -- ---- and then it is free
 
   -- no accepted command increments block b or writes it again, and no restart loses its page
-  pub record CommandLeaves (b : ℕ) (s : Box) (c : Command) : Type 0 where
+  pub record CommandKeepsEntry (b : ℕ) (s : Box) (c : Command) : Type 0 where
     pub not-incremented : Accepted γ s c → c .kind ≡ 6 → c .block ≡ b → ⊥
     pub not-written : Accepted γ s c → c .kind ≡ 4 → c .block ≡ b → ⊥
     pub page-stays : PageStays b s (Given c)
 
-  abbrev pub Leaves : ℕ → Box → Event → Type 0
-  Leaves b s (Given c) = CommandLeaves b s c
-  Leaves b s (Queried q) = Unit
+  abbrev pub EntryStays : ℕ → Box → Event → Type 0
+  EntryStays b s (Given c) = CommandKeepsEntry b s c
+  EntryStays b s (Queried q) = Unit
 
   -- during those times block b is shown as free
   abbrev pub ShownFree : ℕ → (ℕ → Type 0) → Box → Event → Type 0
@@ -74,5 +74,5 @@ module _ (γ : Geometry) where
 
   -- from t + L + 1 on the block is shown as free, if nobody increments it
   unfoldable pub UnfrozenThenFree : Type 0
-  UnfrozenThenFree = (s : Box) (c : Command) (es : List Event) → Unfreezes s c es → Throughout γ (Leaves (c .block)) (step γ s c .box) es
+  UnfrozenThenFree = (s : Box) (c : Command) (es : List Event) → Unfreezes s c es → Throughout γ (EntryStays (c .block)) (step γ s c .box) es
       → Throughout γ (ShownFree (c .block) (λ now. c .now + lockOf s (c .block) + 1 ≤ now)) (step γ s c .box) es
