@@ -30,7 +30,7 @@ use Rattle.memory.specs.Memory.{groups, held, heldPage, withLastTime}
 use Rattle.memory.proofs.FieldLaw.{time-set}
 use Rattle.machine.specs.Command.{answerSize, boxOf, outcomeOf}
 use Rattle.machine.specs.Tag.{tagged, currentPage, currentEntry}
-use Rattle.machine.specs.Effect.{effectOf, stored, read, entryAnswer, showEntry, showPage, identifySize, identify}
+use Rattle.machine.specs.Effect.{effectOf, stored, read, entryAnswer, showEntry, showPage, identifySize, identify, statePlace}
 use Rattle.machine.specs.Step.{padded, timed, done, accepted}
 use Rattle.machine.proofs.TagLaw.{tagged-length, current-length}
 use Rattle.machine.proofs.StepLaw.{outcome-of, padded-full}
@@ -64,7 +64,7 @@ module _ {γ : Geometry} (σ : Proper γ) where
   -- an entry, the time left and the state, one after the other over zeros
   pub entry-answered : (answer z a b r : List ℕ) (now n : ℕ) (e : Entry) (s : State) → length answer ≡ answerSize γ
       → z ≡ replaced answer 0 (repeated (answerSize γ) 0) → a ≡ withEntry z 0 e → b ≡ replaced a entrySize (timeLeftBytes now e)
-      → s ≡ state now e → n ≡ stateNumber s → r ≡ withNumber b (entrySize + timeLeftSize) 1 n → r ≡ padded γ (entryAnswer now e)
+      → s ≡ state now e → n ≡ stateNumber s → r ≡ withNumber b statePlace 1 n → r ≡ padded γ (entryAnswer now e)
   unfolding entryAnswer
   entry-answered answer z a b r now n e s l ez ea eb es en er =
       let x = entryBytes e in
@@ -72,7 +72,7 @@ module _ {γ : Geometry} (σ : Proper γ) where
       let k = stateNumber (state now e) in
       let lx : length x ≡ entrySize = entryBytes-length e in
       let ly : length y ≡ timeLeftSize = timeLeftBytes-length now e in
-      let lxy : length (x ++ y) ≡ entrySize + timeLeftSize = length-append x y ∙ omega arith in
+      let lxy : length (x ++ y) ≡ statePlace = length-append x y ∙ omega arith in
       let number : n ≡ k = en ∙ ap stateNumber es in
       let small : n < 256 = omega (arith, number, stateNumber-byte (state now e)) in
       let zeros : z ≡ repeated (answerSize γ) 0 =
@@ -80,8 +80,8 @@ module _ {γ : Geometry} (σ : Proper γ) where
       let size : length z ≡ answerSize γ = ap length zeros ∙ repeated-length (answerSize γ) 0 in
       let second : b ≡ replaced z 0 (x ++ y) = replaced-next z a x y b entrySize (ea ∙ withEntry-first z e) (sym lx) (omega arith) eb in
       let third : r ≡ replaced z 0 ((x ++ y) ++ (k ∷ [])) =
-      replaced-next z b (x ++ y) (k ∷ []) r (entrySize + timeLeftSize) second (sym lxy) (omega arith)
-      (er ∙ withNumber-byte b (entrySize + timeLeftSize) n small ∙ ap (λ (d : ℕ). replaced b (entrySize + timeLeftSize) (d ∷ [])) number) in
+      replaced-next z b (x ++ y) (k ∷ []) r statePlace second (sym lxy) (omega arith)
+      (er ∙ withNumber-byte b statePlace n small ∙ ap (λ (d : ℕ). replaced b statePlace (d ∷ [])) number) in
       named-stored σ z ((x ++ y) ++ (k ∷ [])) r zeros third ∙ ap (padded γ) (append-assoc x y (k ∷ []))
 
   -- ---- outcomes

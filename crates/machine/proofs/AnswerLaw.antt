@@ -26,7 +26,7 @@ use Rattle.machine.specs.declared.Kind.the-variants.{Read, Entry, Page, 
 use Rattle.machine.specs.Command.{Box, Command, Outcome, kindOf, broughtPage, broughtTag, answerSize}
 use Rattle.machine.specs.Tag.{tag, tagged, currentPage, currentEntry}
 use Rattle.machine.specs.Question.{refusal}
-use Rattle.machine.specs.Effect.{entryAnswer, stored, effect, read, showEntry, showPage, changedPage, changedMemory, change}
+use Rattle.machine.specs.Effect.{entryAnswer, stored, effect, read, showEntry, showPage, changedPage, changedMemory, change, statePlace}
 use Rattle.machine.specs.Step.{step, timed, padded, done}
 use Rattle.machine.specs.After.{Serves, AnswerServes}
 use Rattle.machine.proofs.QuestionLaw.{all-yes}
@@ -90,10 +90,10 @@ module _ {γ : Geometry} (σ : Proper γ) where
       ∙ part-first (timeLeftBytes (c .now) x) (stateNumber (state (c .now) x) ∷ []) timeLeftSize (timeLeftBytes-length (c .now) x)
 
   pub state-answer : (s : Box) (c : Command) → kindOf c ≡ Entry → refusal γ s c ≡ 0
-      → part (step γ s c .answer) (entrySize + timeLeftSize) 1 ≡ stateNumber (state (c .now) (currentEntry γ s (c .block))) ∷ []
+      → part (step γ s c .answer) statePlace 1 ≡ stateNumber (state (c .now) (currentEntry γ s (c .block))) ∷ []
   state-answer s c e r =
       let x = currentEntry γ s (c .block) in
-      ap (λ (l : List ℕ). part l (entrySize + timeLeftSize) 1) (entry-named s c e r)
+      ap (λ (l : List ℕ). part l statePlace 1) (entry-named s c e r)
       ∙ behind-entry (c .now) x timeLeftSize 1 (omega arith)
       ∙ part-second (timeLeftBytes (c .now) x) (stateNumber (state (c .now) x) ∷ []) timeLeftSize 1 (timeLeftBytes-length (c .now) x) refl
 

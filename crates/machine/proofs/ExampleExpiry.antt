@@ -2,7 +2,7 @@
 -- at the start. Assumes nothing.
 use mathlib.Core.Path.{_≡_, refl, ap, sym, _∙_}
 use mathlib.Core.List.{[]}
-use Prim.Native.Nat.{ℕ, _+_}
+use Prim.Native.Nat.{ℕ}
 use native.Mathlib.Omega.{arith}
 use lib.Dec.{lit<, lit≤}
 use lib.ListN.{getD}
@@ -10,10 +10,9 @@ use Rattle.octets.specs.Part.{AreBytes}
 use Rattle.octets.proofs.RepeatedLaw.{repeated-below}
 use Rattle.octets.proofs.BelowLaw.{below-none}
 use Rattle.lockpage.specs.Geometry.{base}
-use Rattle.lockpage.specs.Size.{entrySize}
 use Rattle.lockpage.specs.declared.Entry.{Entry as PageEntry}
 use Rattle.lockpage.specs.Entry.{entry, flag, isFrozen}
-use Rattle.lockpage.specs.State.{state, stateNumber, timeLeftSize}
+use Rattle.lockpage.specs.State.{state, stateNumber}
 use Rattle.lockpage.proofs.GeometryLaw.{base-proper}
 use Rattle.addressing.specs.Map.{groupOf, placeOf}
 use Rattle.memory.specs.Memory.{none}
@@ -21,6 +20,7 @@ use Rattle.machine.specs.declared.Kind.the-variants.{Entry}
 use Rattle.machine.specs.Command.{Box, kindNumbered, answerSize}
 use Rattle.machine.specs.Tag.{currentPage}
 use Rattle.machine.specs.Question.{refusal}
+use Rattle.machine.specs.Effect.{statePlace}
 use Rattle.machine.specs.Step.{step}
 use Rattle.machine.specs.Claims.{ByteBox}
 use Rattle.machine.specs.Protection.{CountingTo}
@@ -49,10 +49,10 @@ free-served = entry-served known-last 1701 (lit≤ tt) (lit≤ tt)
 
 -- the state byte that is shown of block 0
 state-of : {time counted holds : ℕ} {e d : PageEntry} {s : Box} → Known time counted holds e d s → (now : ℕ) → refusal base s (plain 2 now) ≡ 0
-    → getD (step base s (plain 2 now) .answer) (entrySize + timeLeftSize) 0 ≡ stateNumber (state now e)
+    → getD (step base s (plain 2 now) .answer) statePlace 0 ≡ stateNumber (state now e)
 unfolding kindNumbered groupOf placeOf
 state-of {time} {counted} {holds} {e} {d} {s} h now r =
-    byte-of (step base s (plain 2 now) .answer) (entrySize + timeLeftSize) _ (state-answer base-proper s (plain 2 now) refl r)
+    byte-of (step base s (plain 2 now) .answer) statePlace _ (state-answer base-proper s (plain 2 now) refl r)
     ∙ ap (λ (x : PageEntry). stateNumber (state now x)) (h .current .written)
 
 -- an entry shown keeps the entry

@@ -9,16 +9,16 @@ use lib.ListN.{getD}
 use Rattle.octets.specs.Part.{AreBytes, part}
 use Rattle.octets.proofs.PartLaw.{part-at}
 use Rattle.lockpage.specs.Geometry.{Geometry, Proper}
-use Rattle.lockpage.specs.Size.{entrySize}
 use Rattle.lockpage.specs.declared.State.{State}
 use Rattle.lockpage.specs.declared.State.the-variants.{Free, Frozen, Counting}
-use Rattle.lockpage.specs.State.{state, stateNumber, timeLeftSize}
+use Rattle.lockpage.specs.State.{state, stateNumber}
 use Rattle.lockpage.specs.Update.{latestTime}
 use Rattle.addressing.specs.Map.{dataBlocks}
 use Rattle.memory.specs.Memory.{groups, held, none}
 use Rattle.machine.specs.declared.Kind.the-variants.{Entry}
 use Rattle.machine.specs.Command.{Box}
 use Rattle.machine.specs.Tag.{currentEntry}
+use Rattle.machine.specs.Effect.{statePlace}
 use Rattle.machine.specs.Step.{step}
 use Rattle.machine.specs.Query.{blockNumber, shownSize, queryStep}
 use Rattle.machine.specs.Run.{Event, Given, Queried, Throughout}
@@ -71,7 +71,7 @@ module _ {γ : Geometry} (σ : Proper γ) where
       let kind = entry-kind (c .kind) (c .value) k in
       let q = passed σ Entry s c (all-yes σ Entry s c kind r) in
       let inside = ltb-true (c .block) (dataBlocks γ (groups γ (s .memory))) (q .range) in
-      shown-at b P during s h (c .block) (c .now) e (in-time σ Entry s c q) inside d (step γ s c .answer) (entrySize + timeLeftSize)
+      shown-at b P during s h (c .block) (c .now) e (in-time σ Entry s c q) inside d (step γ s c .answer) statePlace
       (state-answer σ s c kind r)
   state-shown-as b P during s (Queried q) h =
       λ a i inside e d.

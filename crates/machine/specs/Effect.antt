@@ -6,11 +6,12 @@ use Prim.Native.Nat.{ℕ, _+_}
 use lib.Dec.{eqb}
 use Rattle.octets.specs.Number.{bytes}
 use Rattle.lockpage.specs.Geometry.{Geometry}
+use Rattle.lockpage.specs.Size.{entrySize}
 use Rattle.lockpage.specs.declared.Entry.{Entry as PageEntry}
 use Rattle.lockpage.specs.declared.Update.{Update}
 use Rattle.lockpage.specs.declared.Update.the-variants.{Write, Unfreeze, Increment}
 use Rattle.lockpage.specs.Entry.{entryBytes}
-use Rattle.lockpage.specs.State.{state, stateNumber, timeLeftBytes}
+use Rattle.lockpage.specs.State.{state, stateNumber, timeLeftSize, timeLeftBytes}
 use Rattle.lockpage.specs.Update.{updated}
 use Rattle.lockpage.specs.Page.{entryAt, withEntry}
 use Rattle.addressing.specs.Map.{dataBlocks, groupOf, placeOf, physical, pageBlock}
@@ -43,6 +44,10 @@ effectOf stores memory named = record { stores = stores; memory = memory; named 
 -- kind 2: "its 8 bytes, then the time left as a signed 64-bit number, then the state in one byte"
 unfoldable pub entryAnswer : ℕ → PageEntry → List ℕ
 entryAnswer now e = entryBytes e ++ (timeLeftBytes now e ++ (stateNumber (state now e) ∷ []))
+
+-- where the state stands in it
+abbrev pub statePlace : ℕ
+statePlace = entrySize + timeLeftSize
 
 -- kind 10: "G, then 64 × G, 4 bytes each"
 abbrev pub identifySize : ℕ

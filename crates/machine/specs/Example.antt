@@ -5,13 +5,12 @@
 -- block that counts at its start. The claims are types; their proofs are proofs/Theorems.antt, premises-met, expiry-met and counting-met.
 use mathlib.Core.Path.{_≡_}
 use mathlib.Core.List.{List, [], _∷_, _++_}
-use Prim.Native.Nat.{ℕ, _+_, _*_}
+use Prim.Native.Nat.{ℕ, _*_}
 use lib.ListN.{getD}
 use Rattle.octets.specs.Part.{AreBytes, repeated}
 use Rattle.lockpage.specs.Geometry.{base}
-use Rattle.lockpage.specs.Size.{entrySize, blockSize}
+use Rattle.lockpage.specs.Size.{blockSize}
 use Rattle.lockpage.specs.Entry.{entry, stampOf, frozenFlag, unfrozenFlag}
-use Rattle.lockpage.specs.State.{timeLeftSize}
 use Rattle.lockpage.specs.Page.{entryAt}
 use Rattle.addressing.specs.Map.{diskSize, groupOf, physical}
 use Rattle.disk.specs.Disk.{block}
@@ -19,6 +18,7 @@ use Rattle.memory.specs.Layout.{memorySize, saltSize}
 use Rattle.memory.specs.Memory.{lastTime, held, none}
 use Rattle.machine.specs.Command.{Box, Command, boxOf, answerSize}
 use Rattle.machine.specs.Tag.{tagged, currentPage, currentEntry}
+use Rattle.machine.specs.Effect.{statePlace}
 use Rattle.machine.specs.Step.{step, padded, Accepted}
 use Rattle.machine.specs.Format.{format}
 use Rattle.machine.specs.Query.{Query, queryOf, numbers, shownSize, queryStep, AcceptedQuery}
@@ -240,8 +240,8 @@ pub record ExpiryMet : Type 0 where
   pub entry-stays : Throughout base (EntryStays base 0) unfrozenBox toExpiry
   pub accepted : Throughout base IsAccepted unfrozenBox toExpiry
   -- at 1700 it is shown as counting, at 1701 as free
-  pub counting : getD (step base unfrozenBox showingLast .answer) (entrySize + timeLeftSize) 0 ≡ 2
-  pub free : getD (step base lastBox showingFree .answer) (entrySize + timeLeftSize) 0 ≡ 0
+  pub counting : getD (step base unfrozenBox showingLast .answer) statePlace 0 ≡ 2
+  pub free : getD (step base lastBox showingFree .answer) statePlace 0 ≡ 0
 
 -- and demand 3's of a block that counts at the start: T is 1200, its expiry is 1701
 pub record CountingMet : Type 0 where

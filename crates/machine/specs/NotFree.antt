@@ -2,15 +2,15 @@
 -- claim about two whole lists, as demand 3. Its proof is proofs/QueryTheorems.antt, protected-not-free.
 use mathlib.Core.Path.{_≡_}
 use mathlib.Core.List.{List}
-use Prim.Native.Nat.{ℕ, _+_, _*_, _<_}
+use Prim.Native.Nat.{ℕ, _*_, _<_}
 use lib.ListN.{getD}
 use Rattle.octets.specs.Part.{AreBytes}
 use Rattle.lockpage.specs.Geometry.{Geometry}
-use Rattle.lockpage.specs.Size.{entrySize}
 use Rattle.lockpage.specs.declared.State.the-variants.{Free}
-use Rattle.lockpage.specs.State.{stateNumber, timeLeftSize}
+use Rattle.lockpage.specs.State.{stateNumber}
 use Rattle.memory.specs.Memory.{held, none}
 use Rattle.machine.specs.Command.{Box}
+use Rattle.machine.specs.Effect.{statePlace}
 use Rattle.machine.specs.Step.{step, Accepted}
 use Rattle.machine.specs.Query.{numberCount, blockNumber, shownSize, queryStep, AcceptedQuery}
 use Rattle.machine.specs.Run.{Event, Given, Queried, Throughout}
@@ -22,7 +22,7 @@ module _ (γ : Geometry) where
   -- time left, that of number i of an accepted list at 9 × i
   abbrev pub StateShown : ℕ → (ℕ → Type 0) → (ℕ → Type 0) → Box → Event → Type 0
   StateShown b P during s (Given c) = Accepted γ s c → c .kind ≡ 2 → c .block ≡ b → during (c .now)
-      → P (getD (step γ s c .answer) (entrySize + timeLeftSize) 0)
+      → P (getD (step γ s c .answer) statePlace 0)
   StateShown b P during s (Queried q) = AcceptedQuery γ s q → (i : ℕ) → i < numberCount (q .blocks) → blockNumber (q .blocks) i ≡ b → during (q .now)
       → P (getD (queryStep γ s q .answer) (shownSize * i) 0)
 

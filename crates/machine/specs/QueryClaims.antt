@@ -14,6 +14,7 @@ use Rattle.lockpage.specs.Update.{latestTime}
 use Rattle.addressing.specs.Map.{dataBlocks, groupOf}
 use Rattle.memory.specs.Memory.{lastTime, groups}
 use Rattle.machine.specs.Command.{Box, Command, commandOf, answerSize}
+use Rattle.machine.specs.Effect.{statePlace}
 use Rattle.machine.specs.Step.{step, timed, Accepted}
 use Rattle.machine.specs.Query.{Query, numberSize, mostNumbers, numberCount, blockNumber, numbers, shownSize, queryQuestions, queryStep}
 use Rattle.machine.specs.Query.{AcceptedQuery}
@@ -119,7 +120,7 @@ module _ (γ : Geometry) where
   -- entry
   pub record ShowsAs (s : Box) (q : Query) (i : ℕ) (c : Command) : Type 0 where
     pub accepted : Accepted γ s c
-    pub state-byte : part (queryStep γ s q .answer) (shownSize * i) 1 ≡ part (step γ s c .answer) (entrySize + timeLeftSize) 1
+    pub state-byte : part (queryStep γ s q .answer) (shownSize * i) 1 ≡ part (step γ s c .answer) statePlace 1
     pub time-left : part (queryStep γ s q .answer) (shownSize * i + 1) timeLeftSize ≡ part (step γ s c .answer) entrySize timeLeftSize
 
   unfoldable pub QueryShowsEntries : Type 0

@@ -3,7 +3,7 @@
 use mathlib.Core.Path.{_≡_, ap, ap₂, sym, _∙_}
 use mathlib.Core.Bool.{Bool, true, false, _&&_}
 use mathlib.Core.List.{List, []}
-use Prim.Native.Nat.{ℕ, _+_, _≤_, _%_}
+use Prim.Native.Nat.{ℕ, _≤_, _%_}
 use native.Mathlib.Omega.{arith}
 use borrow.Author.Tests.{eq-eqb, ne-eqb}
 use lib.Dec.{eqb}
@@ -23,6 +23,7 @@ use Rattle.machine.specs.declared.Kind.{Kind}
 use Rattle.machine.specs.declared.Kind.the-variants.{Read, Entry, Page, Change, Sync, Restart, NewSalt, Identify, Unknown}
 use Rattle.machine.specs.Command.{Box, Outcome, Command, boxOf, commandOf, outcomeOf, kindNumbered, answerSize}
 use Rattle.machine.specs.Question.{contentLength, proofLength, refusal}
+use Rattle.machine.specs.Effect.{statePlace}
 use Rattle.machine.specs.Step.{step}
 use Rattle.machine.proofs.CaseLaw.{same-or-not}
 use Rattle.machine.proofs.StepLaw.{refused-unaltered}
@@ -39,7 +40,7 @@ shownOf number state left = record { number = number; state = state; left = left
 -- a is the answer after the command
 module _ (kind n : ℕ) (m disk a : List ℕ) (o : Outcome) (e : outcomeOf n m disk a ≡ o) where
   abbrev entry : Shown
-  entry = shownOf n (numberAt a (entrySize + timeLeftSize) 1) (signed (numberAt a entrySize timeLeftSize))
+  entry = shownOf n (numberAt a statePlace 1) (signed (numberAt a entrySize timeLeftSize))
 
   shown-by : (b : Bool) → (eqb kind 2 && eqb n 0) ≡ b
       → shown kind (outcomeOf n m disk a) ≡ elim b [ true ↦ entry | false ↦ shownOf n 0 (pos 0) ]
@@ -55,7 +56,7 @@ module _ (kind n : ℕ) (m disk a : List ℕ) (o : Outcome) (e : outcomeOf n m d
   pub sent-refused : kind ≡ 2 → (n ≡ 0 → ⊥) → ranOf m disk (shownOf n 0 (pos 0)) ≡ ranWith kind o
   sent-refused k h = sent _ (sym (shown-by false (ap₂ (λ (x y : Bool). x && y) (eq-eqb kind 2 k) (ne-eqb n 0 h))))
 
-  pub sent-entry : kind ≡ 2 → n ≡ 0 → (state : ℕ) (left : ℤ) → state ≡ numberAt a (entrySize + timeLeftSize) 1
+  pub sent-entry : kind ≡ 2 → n ≡ 0 → (state : ℕ) (left : ℤ) → state ≡ numberAt a statePlace 1
       → left ≡ signed (numberAt a entrySize timeLeftSize) → ranOf m disk (shownOf n state left) ≡ ranWith kind o
   sent-entry k z state left es el =
       sent _ (ap₂ (λ (x : ℕ) (y : ℤ). shownOf n x y) es el ∙ sym (shown-by true (ap₂ (λ (x y : Bool). x && y) (eq-eqb kind 2 k) (eq-eqb n 0 z))))

@@ -2,7 +2,7 @@
 -- these are definitions.
 use mathlib.Core.Bool.{true, false, _&&_}
 use mathlib.Core.List.{List, [], _∷_, _++_}
-use Prim.Native.Nat.{ℕ, _+_, _%_}
+use Prim.Native.Nat.{ℕ, _%_}
 use lib.Dec.{eqb}
 use lib.IntN.{pos}
 use Rattle.octets.specs.Part.{repeated}
@@ -15,6 +15,7 @@ use Rattle.memory.specs.Memory.{lastTime}
 use Rattle.machine.specs.declared.Kind.{Kind}
 use Rattle.machine.specs.Command.{Box, Command, Outcome, boxOf, commandOf, kindNumbered, answerSize}
 use Rattle.machine.specs.Question.{contentLength, proofLength}
+use Rattle.machine.specs.Effect.{statePlace}
 use Rattle.machine.specs.Step.{step}
 use Rattle.decimal.specs.Decimal.{decimal, signedDecimal}
 use Rattle.script_lines.specs.declared.Values.{Values}
@@ -59,7 +60,7 @@ shown kind o =
     elim (eqb kind 2 && eqb (o .number) 0) [
       | true ↦ record {
         number = o .number;
-        state = numberAt (o .answer) (entrySize + timeLeftSize) 1;
+        state = numberAt (o .answer) statePlace 1;
         left = signed (numberAt (o .answer) entrySize timeLeftSize);
       }
       | false ↦ record { number = o .number; state = 0; left = pos 0 }
