@@ -1,7 +1,7 @@
 -- The runs of specs/Example.antt from the first unfreeze on: one meets the premises of specs/Expiry.antt, one demand 3's, of a block that counts
 -- at the start. Assumes nothing.
 use mathlib.Core.Path.{_≡_, refl, ap, sym, _∙_}
-use mathlib.Core.List.{[]}
+use mathlib.Core.List.{List, [], _∷_}
 use Prim.Native.Nat.{ℕ}
 use native.Mathlib.Omega.{arith}
 use lib.Dec.{lit<, lit≤}
@@ -23,10 +23,11 @@ use Rattle.machine.specs.Question.{refusal}
 use Rattle.machine.specs.Effect.{statePlace}
 use Rattle.machine.specs.Step.{step}
 use Rattle.machine.specs.Claims.{ByteBox}
-use Rattle.machine.specs.Protection.{CountingTo}
-use Rattle.machine.specs.Expiry.{CommandKeepsEntry}
-use Rattle.machine.specs.Example.{plain, start, unfreezing, unfrozenBox, showingLast, lastBox, showingFree, syncingUnfrozen, countingStart, ExpiryMet}
-use Rattle.machine.specs.Example.{CountingMet}
+use Rattle.machine.specs.Run.{Event, Given, Throughout}
+use Rattle.machine.specs.Protection.{Unforged, CountingTo}
+use Rattle.machine.specs.Expiry.{Unfreezes, CommandKeepsEntry}
+use Rattle.machine.specs.Example.{plain, start, unfreezing, unfrozenBox, laterEvents, showingLast, lastBox, showingFree, toExpiry, syncingUnfrozen}
+use Rattle.machine.specs.Example.{countingStart, ExpiryMet, CountingMet}
 use Rattle.machine.proofs.QuestionLaw.{asks, no-seventh}
 use Rattle.machine.proofs.StepLaw.{step-number}
 use Rattle.machine.proofs.TagLaw.{tagged-are, current-are}
@@ -35,7 +36,7 @@ use Rattle.machine.proofs.AnswerLaw.{state-answer}
 use Rattle.machine.proofs.NotFreeLaw.{byte-of}
 use Rattle.machine.proofs.ExampleLaw.{Known, not-forged, entry-served, entry-answers, entry-known, sync-served, sync-known}
 use Rattle.machine.proofs.ExampleRun.{known-start, unfreezing-served, known-unfrozen}
-use Rattle.machine.proofs.ExamplePremises.{start-bytes}
+use Rattle.machine.proofs.ExamplePremises.{start-bytes, unforged-events}
 
 last-served : refusal base unfrozenBox showingLast ≡ 0
 last-served = entry-served known-unfrozen 1700 (lit≤ tt) (lit≤ tt)
@@ -65,24 +66,34 @@ unfolding groupOf
 unfreezing-bytes =
     tagged-are base-proper (start .memory) 0 (currentPage base start 0) (current-are base-proper start 0 (start-bytes .memory) (start-bytes .disk))
 
+-- the first unfreeze, and any events after it that bring no forged page
+unfreezes-before : (es : List Event) → Throughout base (Unforged base) start (Given unfreezing ∷ es) → Unfreezes base start unfreezing es
+unfolding groupOf placeOf
+unfreezes-before es unforged =
+    record {
+      kind = refl;
+      accepted = step-number base-proper start unfreezing ∙ unfreezing-served;
+      lock = omega (arith, ap (λ (e : PageEntry). e .word) (known-start .current .written));
+      bytes = unfreezing-bytes;
+      unforged = unforged;
+    }
+
+unforged-to-expiry : Throughout base (Unforged base) start (Given unfreezing ∷ toExpiry)
+unfolding unfrozenBox lastBox kindNumbered asks
+unforged-to-expiry = (
+  not-forged known-start 5 1200 0 [],
+  (
+    λ y. absurd (no-seventh base-proper Entry unfrozenBox showingLast refl refl y),
+    (λ y. absurd (no-seventh base-proper Entry lastBox showingFree refl refl y), tt),
+  ),
+)
+
 pub expiry-met : ExpiryMet
-unfolding unfrozenBox lastBox groupOf placeOf kindNumbered asks flag isFrozen state stateNumber
+unfolding unfrozenBox lastBox groupOf placeOf flag isFrozen state stateNumber
 expiry-met =
     record {
-      unfreezes =
-          record {
-            kind = refl;
-            accepted = step-number base-proper start unfreezing ∙ unfreezing-served;
-            lock = omega (arith, ap (λ (e : PageEntry). e .word) (known-start .current .written));
-            bytes = unfreezing-bytes;
-            unforged = (
-              not-forged known-start 5 1200 0 [],
-              (
-                λ y. absurd (no-seventh base-proper Entry unfrozenBox showingLast refl refl y),
-                (λ y. absurd (no-seventh base-proper Entry lastBox showingFree refl refl y), tt),
-              ),
-            );
-          };
+      unfreezes = unfreezes-before toExpiry unforged-to-expiry;
+      unfreezes-restarted = unfreezes-before laterEvents unforged-events;
       lock = ap (λ (e : PageEntry). e .word) (known-start .current .written);
       on-disk = known-start .on-disk .written ∙ sym (known-start .current .written);
       none-lost = (λ a k e. omega arith, (λ a k e. omega arith, tt));

@@ -73,7 +73,7 @@ start-bytes =
     (record { content = below-none 256 (lit< tt); proof = below-none 256 (lit< tt); answer = repeated-below 256 (answerSize base) 0 (lit< tt) })
     .box
 
-unforged-events : Throughout base (Unforged base) start events
+pub unforged-events : Throughout base (Unforged base) start events
 unfolding unfrozenBox shownBox listedBox restartedBox readBox countingBox kindNumbered asks
 unforged-events = (
   not-forged known-start 5 1200 0 [],

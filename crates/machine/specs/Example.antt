@@ -116,16 +116,13 @@ countingBox = step base readBox unfreezingAgain .box
 abbrev pub overwriting : Command
 overwriting = updating countingBox 4 1901 0 (repeated (blockSize base) 2)
 
+-- what comes after the first unfreeze
+abbrev pub laterEvents : List Event
+laterEvents =
+    Given showing ∷ Queried listing ∷ Given restarting ∷ Given readingBack ∷ Given unfreezingAgain ∷ Given overwriting ∷ []
+
 abbrev pub events : List Event
-events =
-    Given unfreezing
-    ∷ Given showing
-    ∷ Queried listing
-    ∷ Given restarting
-    ∷ Given readingBack
-    ∷ Given unfreezingAgain
-    ∷ Given overwriting
-    ∷ []
+events = Given unfreezing ∷ laterEvents
 
 -- ---- the other run
 
@@ -234,9 +231,11 @@ pub record PremisesMet : Type 0 where
 pub record ExpiryMet : Type 0 where
   pub unfreezes : Unfreezes base start unfreezing toExpiry
   pub lock : lockOf base start 0 ≡ 500
-  -- both ways in which the lock stays, and nobody increments the block
+  -- both ways in which the lock stays: the disk has the entry, also in the run with a restart, or no page is lost
+  pub unfreezes-restarted : Unfreezes base start unfreezing laterEvents
   pub on-disk : startEntry base start 0 ≡ currentEntry base start 0
   pub none-lost : Throughout base (PageStays base 0) unfrozenBox toExpiry
+  -- and nobody increments the block
   pub entry-stays : Throughout base (EntryStays base 0) unfrozenBox toExpiry
   pub accepted : Throughout base IsAccepted unfrozenBox toExpiry
   -- at 1700 it is shown as counting, at 1701 as free
