@@ -72,6 +72,12 @@ pub updated-fits : (u : Update) (now : ℕ) (e : Entry) → now ≤ latestTime �
     → EntryFits (updated u now e)
 updated-fits u now e h f w = record { word = omega (arith, within-most (updated u now e) w); stamp = stamp-small u now e h f }
 
+-- a write fits whatever was there before
+pub written-fits : (lock now : ℕ) (e : Entry) → now ≤ latestTime → withinLimit (updated (Write lock) now e) ≡ true
+    → EntryFits (updated (Write lock) now e)
+unfolding updated
+written-fits lock now e h w = record { word = omega (arith, within-most (updated (Write lock) now e) w); stamp = omega arith }
+
 -- a write
 pub written-word : (lock now : ℕ) (e : Entry) → updated (Write lock) now e .word ≡ lock
 unfolding updated

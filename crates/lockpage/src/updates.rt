@@ -10,7 +10,7 @@ use crate::Update;
 
 pub const LATEST_TIME: u32 = 2147483647;
 
-const LONGEST_LOCK: u64 = 2147483647;
+pub const LONGEST_LOCK: u64 = 2147483647;
 
 const LATEST_EXPIRY: u64 = 4294967295;
 

@@ -131,7 +131,7 @@ module _ {γ : Geometry} (σ : Proper γ) where
       )
 
   -- a page brought with its tag serves
-  serves : (t : Box) (g : ℕ) (proof : List ℕ) → length (currentPage γ t g) ≡ pageSize γ → proof ≡ tagged γ (t .memory) g (currentPage γ t g)
+  pub serves : (t : Box) (g : ℕ) (proof : List ℕ) → length (currentPage γ t g) ≡ pageSize γ → proof ≡ tagged γ (t .memory) g (currentPage γ t g)
       → Serves γ t g proof
   serves t g proof size e =
       let p = currentPage γ t g in

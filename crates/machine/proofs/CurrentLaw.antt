@@ -3,6 +3,7 @@ use mathlib.Core.Path.{_≡_, refl, ap, sym, subst, _∙_}
 use mathlib.Core.Bool.{Bool, true, false}
 use mathlib.Core.List.{List}
 use Prim.Native.Nat.{ℕ, _<_}
+use native.Mathlib.Omega.{arith}
 use borrow.Author.Tests.{eq-eqb, ne-eqb}
 use lib.ListN.{length}
 use Rattle.octets.specs.Part.{AreBytes}
@@ -53,22 +54,22 @@ module _ {γ : Geometry} (σ : Proper γ) where
     pub brings-current : Unforged γ s (Given c) → broughtPage γ (c .proof) ≡ currentPage γ s (groupOf γ (c .block))
     brings-current f = f (got-seventh σ u s c k (all-seven σ u s c (all-yes σ (Change u) s c k r)))
 
-    module _ (bytes : AreBytes (c .proof)) where
-      pub own-fits : EntryFits (updated u (c .now) (broughtEntry γ c))
-      own-fits =
-          let yes-all = all-yes σ (Change u) s c k r in
-          updated-fits u (c .now) (broughtEntry γ c) (passed σ (Change u) s c yes-all .early)
-          (entryAt-fits (broughtPage γ (c .proof)) (placeOf γ (c .block)) (brought-are σ (c .proof) bytes)) (changes σ u s c yes-all .within)
+    pub own-fits : AreBytes (c .proof) → EntryFits (updated u (c .now) (broughtEntry γ c))
+    own-fits bytes =
+        let yes-all = all-yes σ (Change u) s c k r in
+        updated-fits u (c .now) (broughtEntry γ c) (passed σ (Change u) s c yes-all .early)
+        (entryAt-fits (broughtPage γ (c .proof)) (placeOf γ (c .block)) (brought-are σ (c .proof) bytes)) (changes σ u s c yes-all .within)
 
-      -- it leaves its own block the updated entry
-      pub own-entry : currentEntry γ (step γ s c .box) (c .block) ≡ updated u (c .now) (broughtEntry γ c)
-      unfolding updatedPage
-      own-entry =
-          let p = broughtPage γ (c .proof) in
-          let i = placeOf γ (c .block) in
-          let size = brought-length σ (c .proof) (changes σ u s c (all-yes σ (Change u) s c k r) .proof) in
-          ap (λ (q : List ℕ). entryAt q i) (own-page σ u s c k r)
-          ∙ entryAt-same p i (updated u (c .now) (broughtEntry γ c)) (entry-within σ p i size (placeOf-below σ (c .block))) own-fits
+    -- it leaves its own block the updated entry
+    pub own-entry : EntryFits (updated u (c .now) (broughtEntry γ c))
+        → currentEntry γ (step γ s c .box) (c .block) ≡ updated u (c .now) (broughtEntry γ c)
+    unfolding updatedPage
+    own-entry fits =
+        let p = broughtPage γ (c .proof) in
+        let i = placeOf γ (c .block) in
+        let size = brought-length σ (c .proof) (changes σ u s c (all-yes σ (Change u) s c k r) .proof) in
+        ap (λ (q : List ℕ). entryAt q i) (own-page σ u s c k r)
+        ∙ entryAt-same p i (updated u (c .now) (broughtEntry γ c)) (entry-within σ p i size (placeOf-below σ (c .block))) fits
 
   -- ---- what holds of block b's current entry
 
@@ -121,3 +122,25 @@ module _ {γ : Geometry} (σ : Proper γ) where
         by-kind NewSalt k = h
         by-kind Identify k = h
         by-kind Unknown k = h
+
+  -- ---- an update that brings the current page
+
+  module _ (u : Update) (s : Box) (c : Command) (k : kindOf c ≡ Change u) (r : refusal γ s c ≡ 0)
+      (brings : broughtPage γ (c .proof) ≡ currentPage γ s (groupOf γ (c .block))) where
+    -- what it brings is the block's current entry
+    pub brought-current : broughtEntry γ c ≡ currentEntry γ s (c .block)
+    brought-current = ap (λ (p : List ℕ). entryAt p (placeOf γ (c .block))) brings
+
+    pub entry-own : EntryFits (updated u (c .now) (currentEntry γ s (c .block)))
+        → currentEntry γ (step γ s c .box) (c .block) ≡ updated u (c .now) (currentEntry γ s (c .block))
+    entry-own fits =
+        own-entry u s c k r (subst (λ (e : PageEntry). EntryFits (updated u (c .now) e)) (sym brought-current) fits)
+        ∙ ap (updated u (c .now)) brought-current
+
+    pub entry-other : (b : ℕ) → groupOf γ b < groups γ (s .memory) → (b ≡ c .block → ⊥) → currentEntry γ (step γ s c .box) b ≡ currentEntry γ s b
+    entry-other b inside other =
+        entry-after (λ (e : PageEntry). e ≡ currentEntry γ s b) b s c r (λ yes. brings) inside refl (λ v kind same. absurd (other (sym same)))
+        (λ kind. absurd (not-restart (sym k ∙ kind)))
+      where
+        not-restart : Change u ≡ Restart → ⊥
+        not-restart e = let z : _≡_ {A = ℕ} 0 1 = cc in omega arith

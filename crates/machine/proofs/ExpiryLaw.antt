@@ -100,12 +100,13 @@ module _ {γ : Geometry} (σ : Proper γ) where
         → Tracked γ (c .block) Q (step γ s c .box)
     tracked Q h =
         let a = accepted-after σ s c passes in
-        let same = own-entry σ Unfreeze s c kind passes (x .bytes) in
+        let fits = own-fits σ Unfreeze s c kind passes (x .bytes) in
+        let same = own-entry σ Unfreeze s c kind passes fits in
         record {
           of-box =
               subst (λ (n : ℕ). groupOf γ (c .block) < n) (sym (a .same-groups))
               (changed-group σ Unfreeze s c (changes σ Unfreeze s c (all-yes σ (Change Unfreeze) s c kind passes)));
-          fits = subst EntryFits (sym same) (own-fits σ Unfreeze s c kind passes (x .bytes));
+          fits = subst EntryFits (sym same) fits;
           entry =
               subst (λ (t : ℕ). Q t (currentEntry γ (step γ s c .box) (c .block))) (sym (a .time))
               (subst (Q (c .now)) (sym (same ∙ ap (updated Unfreeze (c .now)) found)) h);

@@ -5,7 +5,7 @@ use mathlib.Core.Logic.{Or·elim, ∥∥₁-elim, ∥∥₁-map}
 use mathlib.Mathlib.Data.Bool.Basic.{and-intro, and-elim-left, and-elim-right, or-inl, or-inr, eq-false-of-not-eq-true}
 use mathlib.Core.List.{List, [], _∷_, _++_, map, flatMap, any, all, all-eq-true, any-eq-true}
 use mathlib.Core.List.{not-mem-nil, mem-cons-self, mem-cons-of-mem, eq-or-mem-of-mem-cons}
-use Prim.Native.Nat.{ℕ, zero, suc, _+_, _*_, _≤_, _<_}
+use Prim.Native.Nat.{ℕ, zero, suc, _+_, _-_, _*_, _≤_, _<_}
 use native.Mathlib.Omega.{arith}
 use borrow.Author.Tests.{eqb-true}
 use lib.Dec.{eqb, lit<}
@@ -113,6 +113,36 @@ module _ {A : Type 0} (f : ℕ → A) where
     none-listed i (suc n) h =
         any-cons p (f i) (listed f (suc i) n)
         ∙ ap₂ _||_ (h i (omega arith) (omega arith)) (none-listed (suc i) n (λ j a b. h j (omega arith) (omega arith)))
+
+-- ---- whether all of n have a property, from place i on: looked at from the last to the first
+
+module _ (f : ℕ → ℕ) (p : ℕ → Bool) (n : ℕ) where
+  all-from : (i : ℕ) → i < n → all (listed f i (n - i)) p ≡ p (f i) && all (listed f (suc i) (n - suc i)) p
+  unfolding listed
+  all-from i h =
+      let more : n - i ≡ suc (n - suc i) = omega arith in
+      ap (λ (k : ℕ). all (listed f i k) p) more ∙ all-cons p (f i) (listed f (suc i) (n - suc i))
+
+  -- before the first look, from place k behind the last
+  pub all-counted : (k : ℕ) → k ≡ n → true ≡ all (listed f k (n - k)) p
+  unfolding listed
+  all-counted k e =
+      let nothing : 0 ≡ n - k = omega arith in
+      sym (all-none p) ∙ ap (λ (j : ℕ). all (listed f k j) p) nothing
+
+  -- i is looked at after k
+  pub all-yes : (i k : ℕ) → k ≡ suc i → i < n → (r : Bool) → r ≡ all (listed f k (n - k)) p → p (f i) ≡ true → r ≡ all (listed f i (n - i)) p
+  all-yes i k next h r e y =
+      e
+      ∙ ap (λ (j : ℕ). all (listed f j (n - j)) p) next
+      ∙ sym (all-from i h ∙ ap (λ (b : Bool). b && all (listed f (suc i) (n - suc i)) p) y)
+
+  pub all-no : (i : ℕ) → i < n → p (f i) ≡ false → false ≡ all (listed f i (n - i)) p
+  all-no i h y = sym (all-from i h ∙ ap (λ (b : Bool). b && all (listed f (suc i) (n - suc i)) p) y)
+
+  -- after the last look
+  pub all-counted-down : (i : ℕ) → i ≡ 0 → (r : Bool) → r ≡ all (listed f i (n - i)) p → r ≡ all (listed f 0 n) p
+  all-counted-down i z r e = e ∙ ap (λ (j : ℕ). all (listed f j (n - j)) p) z ∙ ap (λ (j : ℕ). all (listed f 0 j) p) (omega arith)
 
 -- ---- the distinct ones
 

@@ -47,7 +47,7 @@ use Rattle.machine.proofs.ValidBoxLaw.{accepted-valid}
 use Rattle.machine.proofs.TimedLaw.{in-memory}
 use Rattle.machine.proofs.AnswerLaw.{changed-answer}
 use Rattle.machine.proofs.AfterLaw.{accepted-after, own-count, own-held, lost-count}
-use Rattle.machine.proofs.CurrentLaw.{own-entry}
+use Rattle.machine.proofs.CurrentLaw.{own-fits, own-entry}
 
 -- a count raised by 1 or left
 raised : (f : ℕ → ℕ) (a g : ℕ) → (a ≡ g → f a ≤ countLimit) → f g < 256 ^ countSize
@@ -102,7 +102,7 @@ module _ {γ : Geometry} (σ : Proper γ) where
       let found : broughtEntry γ d ≡ updated Unfreeze (c .now) e =
       ap (λ (p : List ℕ). entryAt p (placeOf γ (d .block))) brings
       ∙ ap (currentEntry γ t) same
-      ∙ own-entry σ Unfreeze s c ec (accepts σ s c a) bytes in
+      ∙ own-entry σ Unfreeze s c ec (accepts σ s c a) (own-fits σ Unfreeze s c ec (accepts σ s c a) bytes) in
       let is-frozen = allowed-unfreeze (state (d .now) (broughtEntry γ d)) (ninth-yes σ Unfreeze t d h) in
       let still : flag (broughtEntry γ d .stamp) ≡ frozenFlag = subst (Says (d .now) (broughtEntry γ d)) is-frozen (says (d .now) (broughtEntry γ d)) in
       let now : flag (broughtEntry γ d .stamp) ≡ unfrozenFlag = ap (λ (i : PageEntry). flag (i .stamp)) found ∙ unfrozen-flag (c .now) e in
