@@ -1,6 +1,6 @@
--- What the code shows, in the definitions' words: the current page and entry, the parts of an answer one after the other, and the
+-- What the code shows, in the definitions' words: the parts of an answer one after the other, and the
 -- outcome of an effect that stores nothing. Assumes nothing.
-use mathlib.Core.Path.{_≡_, refl, ap, ap₂, sym, _∙_}
+use mathlib.Core.Path.{_≡_, refl, ap, sym, _∙_}
 use mathlib.Core.List.{List, [], _∷_, _++_, append-assoc}
 use Prim.Native.Nat.{ℕ, _+_, _-_, _^_, _<_}
 use native.Mathlib.Omega.{arith}
@@ -17,16 +17,16 @@ use Rattle.lockpage.specs.declared.Entry.{Entry}
 use Rattle.lockpage.specs.declared.State.{State}
 use Rattle.lockpage.specs.Entry.{entryBytes}
 use Rattle.lockpage.specs.State.{state, stateNumber, timeLeftSize, timeLeftBytes}
-use Rattle.lockpage.specs.Page.{entryAt, withEntry}
+use Rattle.lockpage.specs.Page.{withEntry}
 use Rattle.lockpage.proofs.PageLaw.{withEntry-first}
 use Rattle.lockpage.proofs.EntryLaw.{entryBytes-length}
 use Rattle.lockpage.proofs.StateLaw.{timeLeftBytes-length, stateNumber-byte}
-use Rattle.addressing.specs.Map.{diskSize, dataBlocks, groupOf, placeOf, physical, pageBlock}
+use Rattle.addressing.specs.Map.{diskSize, dataBlocks, physical}
 use Rattle.addressing.proofs.MapLaw.{physical-below}
 use Rattle.disk.specs.Disk.{block}
 use Rattle.disk.proofs.DiskLaw.{block-length, block-within}
 use Rattle.memory.specs.Layout.{memorySize, timeSize}
-use Rattle.memory.specs.Memory.{groups, held, heldPage, withLastTime}
+use Rattle.memory.specs.Memory.{groups, withLastTime}
 use Rattle.memory.proofs.FieldLaw.{time-set}
 use Rattle.machine.specs.Command.{answerSize, boxOf, outcomeOf}
 use Rattle.machine.specs.Tag.{tagged, currentPage, currentEntry}
@@ -34,23 +34,10 @@ use Rattle.machine.specs.Effect.{effectOf, stored, read, entryAnswer, showEntry
 use Rattle.machine.specs.Step.{padded, timed, done, accepted}
 use Rattle.machine.proofs.TagLaw.{tagged-length, current-length}
 use Rattle.machine.proofs.StepLaw.{outcome-of, padded-full}
-use Rattle.current_page.proofs.CurrentLaw.{page-held, page-other}
 use Rattle.answers.proofs.TailLaw.{tail-zeroed, named-stored}
 
 -- γ is any proper geometry
 module _ {γ : Geometry} (σ : Proper γ) where
-  -- ---- the entry of block a on its group's current page, by the held group h that was read, the group and the place computed
-
-  module _ (m disk : List ℕ) (g h : ℕ) (eh : h ≡ held γ m) (a i : ℕ) (eg : g ≡ groupOf γ a) (ei : i ≡ placeOf γ a) (r : Entry) where
-    computed : entryAt (currentPage γ (boxOf m disk) g) i ≡ currentEntry γ (boxOf m disk) a
-    computed = ap₂ (λ (k j : ℕ). entryAt (currentPage γ (boxOf m disk) k) j) eg ei
-
-    pub entry-held : h ≡ g → r ≡ entryAt (heldPage γ m) i → r ≡ currentEntry γ (boxOf m disk) a
-    entry-held e er = er ∙ ap (λ (p : List ℕ). entryAt p i) (page-held σ m disk g h eh (heldPage γ m) e refl) ∙ computed
-
-    pub entry-other : (h ≡ g → ⊥) → r ≡ entryAt (block γ disk (pageBlock γ g)) i → r ≡ currentEntry γ (boxOf m disk) a
-    entry-other n er = er ∙ ap (λ (p : List ℕ). entryAt p i) (page-other σ m disk g h eh (block γ disk (pageBlock γ g)) n refl) ∙ computed
-
   -- ---- the answer
 
   -- a page came back at its front, and its tag is put behind it

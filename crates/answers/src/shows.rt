@@ -2,11 +2,8 @@
 ghost use mathlib.Core.Path.{_≡_};
 ghost use lib.ListN.{length};
 ghost use Rattle.lockpage.specs.Geometry.{present};
-ghost use Rattle.addressing.specs.Map.{groupOf};
-ghost use Rattle.disk.specs.Disk.{HasGroup};
 ghost use Rattle.memory.specs.Layout.{memorySize};
 ghost use Rattle.machine.specs.Command.{answerSize};
-ghost use Rattle.machine.specs.Tag.{currentEntry};
 ghost use Rattle.machine.specs.Effect.{entryAnswer, showEntry, showPage};
 ghost use Rattle.machine.specs.Effect as E;
 ghost use Rattle.machine.specs.Step.{padded, accepted};
@@ -31,19 +28,6 @@ pub fn read(memory: &mut [u8], disk: &[u8], block: u32, time: u32, answer: &mut 
     tail::zero_tail(answer, addressing::BLOCK_SIZE);
 }
 
-// A block's entry on the current page of its group.
-fn current_entry(memory: &[u8], disk: &[u8], block: u32) -> Entry
-    requires { ⌜ (length (now memory) ≡ memorySize present) × HasGroup present (now disk) (groupOf present block) ⌝ }
-    ensures { λ r. ⌜ r ≡ currentEntry present (boxAt (memory .entry) (disk .entry)) block ⌝ }
-{
-    let group = addressing::group_of(block);
-    let place = addressing::place_of(block);
-    if memory::held(memory) == group {
-        return held_page::load_entry(memory, place);
-    }
-    disk::whole::load_entry(disk, group, place)
-}
-
 // Answers an entry, the time left and the state. The zeros come first: all of the answer is quicker to fill than a part that
 // starts at an odd place.
 fn answer_entry(answer: &mut [u8], e: Entry, time: u32)
@@ -64,7 +48,7 @@ pub fn show_entry(memory: &mut [u8], disk: &[u8], block: u32, time: u32, answer:
         ≡ accepted present (λ s. showEntry present s block time) (boxAt (memory .entry) (disk .entry)) time ⌝ }
 {
     memory::set_last_time(memory, time);
-    let e = current_entry(memory, disk, block);
+    let e = current_page::entry(memory, disk, block);
     answer_entry(answer, e, time);
 }
 

@@ -1,6 +1,7 @@
 // A command's arguments: its kind, and questions 2 to 6, on the disk, the kind, the time, the address and the lengths. A function
-// for each, and all of them in order; and the entry that an update brings. The contracts cite the definitions of machine,
-// and of specs/ the list of the five.
+// for each, and all of them in order; those that are put to any call on a box, in order; and the entry that an update brings. The
+// contracts cite the definitions of machine, and of specs/ the list of the five.
+pub mod box_questions;
 pub mod kinds;
 
 ghost use mathlib.Core.Path.{_≡_};
@@ -16,7 +17,7 @@ use lockpage::Entry;
 use machine::Kind;
 
 // Question 2.
-pub fn disk_fits(memory: &[u8], disk: &[u8]) -> bool
+pub(crate) fn disk_fits(memory: &[u8], disk: &[u8]) -> bool
     requires { ⌜ length (now memory) ≡ memorySize present ⌝ }
     ensures { λ r. ⌜ r ≡ passes (question2 present (now (memory .entry)) (now (disk .entry))) ⌝ }
 {
@@ -24,7 +25,7 @@ pub fn disk_fits(memory: &[u8], disk: &[u8]) -> bool
 }
 
 // Question 4.
-pub fn is_timely(memory: &[u8], time: u32) -> bool
+pub(crate) fn is_timely(memory: &[u8], time: u32) -> bool
     requires { ⌜ length (now memory) ≡ memorySize present ⌝ }
     ensures { λ r. ⌜ r ≡ passes (question4 present (now (memory .entry)) time) ⌝ }
 {

@@ -9,23 +9,21 @@ use lib.ListN.{length}
 use Rattle.lockpage.specs.Geometry.{Geometry, Proper}
 use Rattle.addressing.specs.Map.{dataBlocks}
 use Rattle.memory.specs.Memory.{groups}
+use Rattle.validity.proofs.ValidLaw.{Valid, facts}
 use Rattle.machine.specs.Command.{Box}
-use Rattle.machine.specs.Question.{Question, Put, question1, question2, question4, passes, firstNo}
+use Rattle.machine.specs.Question.{Question, Put, question1, question2, question4, passes, firstNo, AllYes}
 use Rattle.machine.specs.Query.{Query, numberCount, numbers, shownSize, question12, listQuestion5, listQuestion6, queryRefusal}
-use Rattle.machine.proofs.QuestionLaw.{says-no, goes-on}
+use Rattle.machine.proofs.QuestionLaw.{numberedTo, accepted-yes, passes-on, ends, says-no, goes-on}
 use Rattle.machine.proofs.QueryLaw.{fromSixth, fromFifth}
 
 -- γ is the box's geometry
 module _ (γ : Geometry) (s : Box) (q : Query) where
-  -- what is left to ask, behind each
-  abbrev pub after4 : List Question
-  after4 = question12 (q .blocks) ∷ fromFifth γ s q
+  -- what every call is asked, and what is left behind it
+  abbrev pub ofBox : List Question
+  ofBox = question1 γ (s .memory) ∷ question2 γ (s .memory) (s .disk) ∷ question4 γ (s .memory) (q .now) ∷ []
 
-  abbrev pub after2 : List Question
-  after2 = question4 γ (s .memory) (q .now) ∷ after4
-
-  abbrev pub after1 : List Question
-  after1 = question2 γ (s .memory) (s .disk) ∷ after2
+  abbrev pub left4 : List Question
+  left4 = question12 (q .blocks) ∷ fromFifth γ s q
 
 -- γ is any proper geometry
 module _ {γ : Geometry} (σ : Proper γ) (s : Box) (q : Query) where
@@ -33,14 +31,21 @@ module _ {γ : Geometry} (σ : Proper γ) (s : Box) (q : Query) where
   abbrev pub Left : List Question → Type 0
   Left later = firstNo later ≡ queryRefusal γ s q
 
-  -- the first
-  pub invalid : (r : Bool) → r ≡ passes (question1 γ (s .memory)) → not r ≡ true → 1 ≡ queryRefusal γ s q
+  -- one of the first three
+  pub box-refused : (n : ℕ) → n ≡ firstNo (ofBox γ s q) → (n ≡ 0 → ⊥) → n ≡ queryRefusal γ s q
   unfolding queryRefusal
-  invalid r e n = says-no 1 (question1 γ (s .memory)) (after1 γ s q) r refl e n
+  box-refused n e d = e ∙ sym (ends (ofBox γ s q) (left4 γ s q) (λ z. d (e ∙ z)))
 
-  pub valid-left : (r : Bool) → r ≡ passes (question1 γ (s .memory)) → not r ≡ false → Left (after1 γ s q)
+  box-yes : (n : ℕ) → n ≡ firstNo (ofBox γ s q) → n ≡ 0 → AllYes (ofBox γ s q)
+  unfolding numberedTo
+  box-yes n e z = accepted-yes 4 (ofBox γ s q) refl (sym e ∙ z)
+
+  pub box-valid : (n : ℕ) → n ≡ firstNo (ofBox γ s q) → n ≡ 0 → Valid γ (s .memory)
+  box-valid n e z = facts σ (s .memory) (box-yes n e z .0)
+
+  pub box-left : (n : ℕ) → n ≡ firstNo (ofBox γ s q) → n ≡ 0 → Left (left4 γ s q)
   unfolding queryRefusal
-  valid-left r e y = goes-on (question1 γ (s .memory)) (after1 γ s q) r e y
+  box-left n e z = sym (passes-on (ofBox γ s q) (left4 γ s q) (box-yes n e z))
 
   -- one of the others, of number n
   pub refused : (n : ℕ) (answer : Bool) (later : List Question) (r : Bool) → Left (Put n answer ∷ later) → r ≡ answer → not r ≡ true

@@ -68,14 +68,9 @@ fn all_below(blocks: &[u8], limit: u32) -> bool
 pub fn refusal(memory: &[u8], disk: &[u8], blocks: &[u8], time: u32, answer: &[u8]) -> u32
     ensures { λ r. ⌜ r ≡ queryRefusal present (boxAt (memory .entry) (disk .entry)) (queryAt (blocks .entry) time (answer .entry)) ⌝ }
 {
-    if !validity::valid(memory) {
-        return machine::MEMORY_INVALID;
-    }
-    if !arguments::disk_fits(memory, disk) {
-        return machine::DISK_SIZE_WRONG;
-    }
-    if !arguments::is_timely(memory, time) {
-        return machine::TIME_OUT_OF_RANGE;
+    let number = arguments::box_questions::refusal(memory, disk, time);
+    if number != machine::ACCEPTED {
+        return number;
     }
     if !is_list(blocks) {
         return machine::LIST_SIZE_WRONG;

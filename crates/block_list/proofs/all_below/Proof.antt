@@ -8,7 +8,8 @@ use mathlib.Core.List.{all}
 use Prim.Native.Nat.{ℕ, _-_, _≤_}
 use lib.Dec.{ltb}
 use Rattle.machine.specs.Query.{numberCount, blockNumber, listed}
-use Rattle.block_list.proofs.ListLaw.{number-within, all-counted, all-yes, all-no, all-counted-down}
+use Rattle.machine.proofs.ListedLaw.{all-counted, all-yes, all-no, all-counted-down}
+use Rattle.block_list.proofs.ListLaw.{number-within}
 use Rattle.block_list.proofs.all_below.Statement.{statement}
 use Rattle.block_list.proofs.all_below.Tie as tie
 

@@ -12,8 +12,8 @@ use Rattle.answers.proofs.shows.show_entry.Tie as tie
 abbrev start : tie.After-set-last-time-arg → tie.Start
 start c = c .before .before .before .before
 
-current-entry-requires : tie.Need-current-entry-requires
-current-entry-requires c κs =
+entry-requires : tie.Need-entry-requires
+entry-requires c κs =
     let kept = c .before .before in
     let ready = start (kept .before .before) .pre in
     (kept .memory .given ∙ facts σ _ (ready .box .memory) .size, hasGroup-of σ _ _ _ (ready .box .disk) (ready .block))
@@ -23,10 +23,10 @@ returns c =
     let answered = c .before .before in
     let loaded = answered .before .before in
     let timed = loaded .before .before .before .before in
-    entry-outcome σ _ _ _ _ (timed .set-last-time .ensures) _ _ _ (loaded .current-entry .ensures) (answered .answer-entry .ensures)
+    entry-outcome σ _ _ _ _ (timed .set-last-time .ensures) _ _ _ (loaded .entry .ensures) (answered .answer-entry .ensures)
 
 pub show-entry-spec : {M : Type 1} → statement M
 show-entry-spec =
     tie.close
-    (tie.spec (λ c κs. facts σ _ (start c .pre .box .memory) .size) current-entry-requires (λ c κs. search needs)
+    (tie.spec (λ c κs. facts σ _ (start c .pre .box .memory) .size) entry-requires (λ c κs. search needs)
     (λ c. search needs) (λ c. search needs) returns)
