@@ -14,7 +14,8 @@
  * - Restart and new salt, kinds 8 and 9, are given by the box alone. A server's request for one is refused before the controller
  *   is called: a restart gives up the held page, and with it each lock that is not yet on the disk.
  * - A new salt is from the box's own generator, and no salt comes twice.
- * - Memory and disk as an accepted command or list leaves them are stored, whole, before its answer leaves the box.
+ * - Memory and disk as an accepted command or list leaves them, and a version store's state with them, are stored, whole, before its
+ *   answer leaves the box.
  * - Nobody else writes them.
  * Then a lock holds through everything that a server sends from the moment that the write is accepted, and it outlasts a restart
  * once its page is on the disk: by a sync, by a new salt, or because another group's page took its place. examples/service/ is a
@@ -33,7 +34,8 @@ extern "C" {
 /* The numbers answered. */
 enum {
     SOCKJADE_ACCEPTED = 0,
-    SOCKJADE_MEMORY_INVALID = 1,       /* the memory is not 616 bytes, or not valid; when formatting, the groups are not 1 to 16 */
+    SOCKJADE_MEMORY_INVALID = 1,       /* the memory is not 616 bytes, or not valid; a version store's state is not 1,536 bytes, or not
+                                        * valid; when formatting, the groups are not 1 to 16 */
     SOCKJADE_DISK_SIZE_WRONG = 2,      /* the disk is not groups * 33,280 bytes */
     SOCKJADE_KIND_UNKNOWN = 3,         /* the kind is not 1 to 10 */
     SOCKJADE_TIME_OUT_OF_RANGE = 4,    /* now is before the last time, or above 2,147,483,647 */
@@ -42,9 +44,11 @@ enum {
     SOCKJADE_TAG_WRONG = 7,            /* the tag is not that of the page brought, under the present salt and count */
     SOCKJADE_COUNT_EXHAUSTED = 8,      /* the group's count is exhausted, until a new salt */
     SOCKJADE_STATE_WRONG = 9,          /* write: not free; unfreeze: not frozen; increment: free */
-    SOCKJADE_LIMIT_EXCEEDED = 10,      /* a lock above 2,147,483,647 or an expiry above 4,294,967,295 */
+    SOCKJADE_LIMIT_EXCEEDED = 10,      /* a lock above 2,147,483,647, an expiry above 4,294,967,295; at a version store's start, lock 0 */
     SOCKJADE_SALT_UNCHANGED = 11,      /* the new salt is the present one */
-    SOCKJADE_LIST_SIZE_WRONG = 12      /* the list is not 1 to 64 numbers of 4 bytes each; asked after 4 */
+    SOCKJADE_LIST_SIZE_WRONG = 12,     /* the list is not 1 to 64 numbers of 4 bytes each; asked after 4 */
+    SOCKJADE_PART_OUT_OF_RANGE = 13,   /* the part is above 255; asked first */
+    SOCKJADE_TOO_FEW_FREE = 14         /* fewer than two blocks are free besides the version store's reserve; asked after 4 */
 };
 
 /* Kinds of commands, with what each takes beside block and now, and what its answer has before the zeros. */
@@ -84,8 +88,14 @@ enum {
     SOCKJADE_SHOWN_SIZE = 9,           /* answered for each number of a list: state, time left (signed, 8 bytes) */
     SOCKJADE_MOST_NUMBERS = 64,        /* in a list */
     SOCKJADE_MOST_GROUPS = 16,
-    SOCKJADE_BLOCKS_PER_GROUP = 64
+    SOCKJADE_BLOCKS_PER_GROUP = 64,
+    SOCKJADE_VERSIONS_SIZE = 1536,     /* of a version store's state */
+    SOCKJADE_LAST_PART = 255,          /* parts are numbered from 0 */
+    SOCKJADE_LOG_RECORDS = 63          /* in a log block: part and block, 4 bytes each; then the number of the next log block, 8 bytes */
 };
+
+/* The block of a part that has no version. */
+#define SOCKJADE_NO_BLOCK 4294967295u
 
 /* The two numbers of a result of 64 bits: the number answered, in the low half, and the second one, in the high half, which is 0
  * where the first is not SOCKJADE_ACCEPTED. */
@@ -110,6 +120,36 @@ uint32_t sockjade_command(uint8_t *memory, size_t memory_len, uint8_t *disk, siz
  * each group named. */
 uint64_t sockjade_states(uint8_t *memory, size_t memory_len, const uint8_t *disk, size_t disk_len, const uint8_t *blocks,
                          size_t blocks_len, uint32_t now, uint8_t *answer, size_t answer_len);
+
+/* The version store. An office stores the parts of a file, one block each, and replaces them later. The store finds a free block for
+ * each version, writes it under one lock, unfreezes the version that is replaced, and keeps a log of all versions on the disk. It
+ * alters the box by commands alone. Its state is SOCKJADE_VERSIONS_SIZE bytes, which the caller hands on from call to call and stores
+ * with memory and disk; what is in it is the store's own. Where nobody else writes, unfreezes, increments or restarts, the newest
+ * version of each part reads back, by SOCKJADE_READ of its block, as it was put.
+ *
+ * A log block has SOCKJADE_LOG_RECORDS records of part and block in the order of their puts, those not used of bytes FF, and then the
+ * number of the next log block, which is the reserve: no version goes there. The first log block is block 0. */
+
+/* Starts a version store: fills its state. Every version and log block will be written under a lock of `lock` seconds. Answers
+ * SOCKJADE_ACCEPTED; 1 where the state is not SOCKJADE_VERSIONS_SIZE bytes; or 10 where the lock is 0 or above 2,147,483,647. */
+uint32_t sockjade_versions_start(uint8_t *state, size_t state_len, uint32_t lock);
+
+/* Puts a version of a part, SOCKJADE_BLOCK_SIZE bytes of data: writes it to the next free block after the one last taken, going round;
+ * unfreezes the version that it replaces, if the part has one; and adds a record. With the last record of a log block, that is
+ * written to the reserve, and the next free block becomes the reserve. The number is SOCKJADE_ACCEPTED; or 13, 1, 2, 4 or 14, asked in
+ * this order; or the first one by which a command of the put would be refused: 5, 6, 8, 9 or 10. The second is the version's block. */
+uint64_t sockjade_versions_put(uint8_t *state, size_t state_len, uint8_t *memory, size_t memory_len, uint8_t *disk, size_t disk_len,
+                               uint32_t part, uint32_t now, const uint8_t *data, size_t data_len);
+
+/* Writes a log block of the records that there are, as a put does with the last one. Where there are none it answers SOCKJADE_ACCEPTED
+ * and changes nothing, whatever memory, disk and now are. Else it answers SOCKJADE_ACCEPTED; or 1, 2, 4 or 14, asked in this order; or
+ * the number by which the write would be refused: 5, 8 or 9. */
+uint32_t sockjade_versions_flush(uint8_t *state, size_t state_len, uint8_t *memory, size_t memory_len, uint8_t *disk, size_t disk_len,
+                                 uint32_t now);
+
+/* The block of a part's newest version. The number is SOCKJADE_ACCEPTED, or 13 or 1, asked in this order; the second is the block, or
+ * SOCKJADE_NO_BLOCK where the part has no version. */
+uint64_t sockjade_versions_block(const uint8_t *state, size_t state_len, uint32_t part);
 
 /* Formats a box of `groups` groups: fills the memory, and makes every data block free by storing each group's blank page.
  * It touches no data block. Answers SOCKJADE_ACCEPTED, or 1, 2 or 6. */

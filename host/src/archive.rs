@@ -41,6 +41,33 @@ extern "C" {
         answer: *mut u8,
         answer_len: usize,
     ) -> u64;
+
+    fn sockjade_versions_start(state: *mut u8, state_len: usize, lock: u32) -> u32;
+
+    fn sockjade_versions_put(
+        state: *mut u8,
+        state_len: usize,
+        memory: *mut u8,
+        memory_len: usize,
+        disk: *mut u8,
+        disk_len: usize,
+        part: u32,
+        now: u32,
+        content: *const u8,
+        content_len: usize,
+    ) -> u64;
+
+    fn sockjade_versions_flush(
+        state: *mut u8,
+        state_len: usize,
+        memory: *mut u8,
+        memory_len: usize,
+        disk: *mut u8,
+        disk_len: usize,
+        now: u32,
+    ) -> u32;
+
+    fn sockjade_versions_block(state: *const u8, state_len: usize, part: u32) -> u64;
 }
 
 /// The archive's digest: 0 and the digest in `out`, or 6 and `out` as it was.
@@ -117,11 +144,65 @@ pub fn states(memory: &mut [u8], disk: &[u8], blocks: &[u8], now: u32, answer: &
     }
 }
 
-/// How a list's pages read, or the question that said no, are answered: the number in the low 32
-/// bits, the pages in the high ones.
-pub fn outcome(listed: Result<u32, u32>) -> u64 {
-    match listed {
-        Ok(pages) => (pages as u64) << 32,
+/// The start of the archive's version store: 0, or the number of the question that said no.
+pub fn versions_start(state: &mut [u8], lock: u32) -> u32 {
+    // SAFETY: the function has no precondition beyond a valid slice.
+    unsafe { sockjade_versions_start(state.as_mut_ptr(), state.len(), lock) }
+}
+
+/// A put of the archive's version store, with number and block in one: see `outcome`.
+pub fn versions_put(
+    state: &mut [u8],
+    memory: &mut [u8],
+    disk: &mut [u8],
+    part: u32,
+    now: u32,
+    content: &[u8],
+) -> u64 {
+    // SAFETY: the function has no precondition beyond four valid slices that do not overlap.
+    unsafe {
+        sockjade_versions_put(
+            state.as_mut_ptr(),
+            state.len(),
+            memory.as_mut_ptr(),
+            memory.len(),
+            disk.as_mut_ptr(),
+            disk.len(),
+            part,
+            now,
+            content.as_ptr(),
+            content.len(),
+        )
+    }
+}
+
+/// A flush of the archive's version store: 0, or the number of the question that said no.
+pub fn versions_flush(state: &mut [u8], memory: &mut [u8], disk: &mut [u8], now: u32) -> u32 {
+    // SAFETY: the function has no precondition beyond three valid slices that do not overlap.
+    unsafe {
+        sockjade_versions_flush(
+            state.as_mut_ptr(),
+            state.len(),
+            memory.as_mut_ptr(),
+            memory.len(),
+            disk.as_mut_ptr(),
+            disk.len(),
+            now,
+        )
+    }
+}
+
+/// The block of a part's newest version in the archive's version store, with its number in one.
+pub fn versions_block(state: &[u8], part: u32) -> u64 {
+    // SAFETY: the function has no precondition beyond a valid slice.
+    unsafe { sockjade_versions_block(state.as_ptr(), state.len(), part) }
+}
+
+/// How a second number, or the question that said no, is answered: the number in the low 32 bits, the
+/// second in the high ones.
+pub fn outcome(answered: Result<u32, u32>) -> u64 {
+    match answered {
+        Ok(second) => (second as u64) << 32,
         Err(number) => number as u64,
     }
 }

@@ -1,4 +1,5 @@
-//! The comparison of commands and lists, whose checks `bin/commands.rs` runs, and in `script` that of scripts.
+//! The comparison of commands and lists, whose checks `bin/commands.rs` runs, in `versions` that of the version store, and
+//! in `script` that of scripts.
 mod alone;
 pub mod call;
 pub mod edges;
@@ -17,6 +18,7 @@ pub mod situation;
 pub mod stack;
 pub mod table;
 pub mod validity;
+pub mod versions;
 
 /// What a check says of itself, or the first difference.
 pub type Checked = Result<String, String>;

@@ -2,11 +2,13 @@
 //! that it is lent. The questions see them only to read, so a refusal cannot change a byte. In
 //! `states` is the list of document 02's request Q-1, in `entry` the expiry of Q-2.
 mod entry;
+mod free;
 mod memory;
 mod states;
 
 use crate::blake3;
 use entry::{Entry, Update};
+pub use free::{ask_call, is_free};
 use memory::{Memory, Page, LAST_COUNT, LATEST, PAGE_SIZE};
 pub use states::states;
 use std::ops::Range;

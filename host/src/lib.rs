@@ -1,6 +1,6 @@
-//! What the comparisons and the benchmark share: the archive's functions, a BLAKE3, a controller and
-//! a script interpreter written apart from it, the comparisons of commands and of scripts, guarded
-//! buffers and random numbers.
+//! What the comparisons and the benchmark share: the archive's functions, a BLAKE3, a controller, a
+//! version store and a script interpreter written apart from it, the comparisons of commands, versions
+//! and scripts, guarded buffers and random numbers.
 pub mod archive;
 pub mod arguments;
 pub mod blake3;
@@ -9,3 +9,4 @@ pub mod controller;
 pub mod guarded;
 pub mod random;
 pub mod script;
+pub mod versions;

@@ -7,5 +7,8 @@ int main() {
     uint64_t result = sockjade_states(memory, sizeof memory, disk, sizeof disk, input, sizeof input, 0, out, sizeof out);
     if (sockjade_number(result) != SOCKJADE_MEMORY_INVALID || sockjade_second(result) != 0)
         return 1;
+    result = sockjade_versions_block(input, sizeof input, SOCKJADE_LAST_PART + 1);
+    if (sockjade_number(result) != SOCKJADE_PART_OUT_OF_RANGE || sockjade_second(result) == SOCKJADE_NO_BLOCK)
+        return 1;
     return sockjade_digest(input, sizeof input, out, sizeof out) == SOCKJADE_ACCEPTED ? 0 : 1;
 }

@@ -12,6 +12,7 @@ int main(void) {
     test_kinds();
     test_numbers();
     test_states();
+    test_versions();
     printf("header: %u comparisons, %u failed\n", checks_made(), checks_failed());
     return checks_failed() > 0;
 }

@@ -11,6 +11,20 @@ uint32_t sockjade_command(uint8_t *memory, size_t memory_len, uint8_t *disk, siz
 uint64_t sockjade_states(uint8_t *memory, size_t memory_len, const uint8_t *disk, size_t disk_len, const uint8_t *blocks,
                          size_t blocks_len, uint32_t now, uint8_t *answer, size_t answer_len);
 
+/* Document 02, Q-3: "with a lock R, named once at its start" */
+uint32_t sockjade_versions_start(uint8_t *state, size_t state_len, uint32_t lock);
+
+/* "Offices store a file's part under a part number"; "Each put answers its block" */
+uint64_t sockjade_versions_put(uint8_t *state, size_t state_len, uint8_t *memory, size_t memory_len, uint8_t *disk, size_t disk_len,
+                               uint32_t part, uint32_t now, const uint8_t *data, size_t data_len);
+
+/* "stored .. on demand" */
+uint32_t sockjade_versions_flush(uint8_t *state, size_t state_len, uint8_t *memory, size_t memory_len, uint8_t *disk, size_t disk_len,
+                                 uint32_t now);
+
+/* "the newest version of every part reads back, at the block answered" */
+uint64_t sockjade_versions_block(const uint8_t *state, size_t state_len, uint32_t part);
+
 /* "Formatting takes G and a salt" */
 uint32_t sockjade_format(uint8_t *memory, size_t memory_len, uint8_t *disk, size_t disk_len, uint32_t groups,
                          const uint8_t *salt, size_t salt_len);

@@ -7,5 +7,12 @@ void test_format(void);
 void test_kinds(void);
 void test_numbers(void);
 void test_states(void);
+void test_versions(void);
+
+/* Of test_versions, in versions_refused.c. */
+void test_put_refused(void);
+void test_state_refused(void);
+void test_flush_refused(void);
+void test_commands_refused(void);
 
 #endif

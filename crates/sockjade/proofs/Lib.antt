@@ -1,3 +1,3 @@
 -- The laws that proofs cite.
 pub mod DigestLaw
-mod QueryLaw
+mod HalvesLaw

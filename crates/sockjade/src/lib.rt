@@ -1,11 +1,15 @@
 // The functions that a C service calls. A slice crosses as a pointer and a length. No call has a precondition, and each
-// contract fixes the number answered and every byte of each buffer: the digest's by specs/, the others by the definitions of machine.
+// contract fixes the number answered and every byte of each buffer: the digest's by specs/, the version
+// store's by the definitions of versions, the others by those of machine.
 ghost use mathlib.Core.Path.{_≡_};
 ghost use Rattle.lockpage.specs.Geometry.{present};
 ghost use Rattle.machine.specs.Step.{step};
 ghost use Rattle.machine.specs.Format.{format};
 ghost use Rattle.machine.specs.Query.{queryStep};
 ghost use Rattle.machine.specs.Call.{boxAt, commandAt, outcomeAt, formatOutcomeAt, queryAt, queryOutcomeAt, lowHalf, highHalf};
+ghost use Rattle.memory.specs.Memory.{groups};
+ghost use Rattle.versions_machine.specs.Allocation.{firstBlock, wholeBox};
+ghost use Rattle.versions.specs.Call.{locatedOf, calledAt, startedAt, startBytes, lookup, putBytes, flushBytes};
 ghost use Rattle.sockjade.specs.Digest.{digestOutcome, digestCall};
 
 const LONGEST_INPUT: usize = 65536;
@@ -78,6 +82,57 @@ pub extern "C" fn sockjade_states(
 {
     let answered = block_states::states(memory, disk, blocks, time, answer);
     two_numbers(answered.number, answered.pages)
+}
+
+// Starts a version store with a lock: its number, with the state as document 02 has it; where the number is not 0, no byte changed.
+#[no_mangle]
+pub extern "C" fn sockjade_versions_start(state: &mut [u8], lock: u32) -> u32
+    ensures { λ r. ⌜ startedAt r (state .exit) ≡ startBytes present firstBlock (now (state .entry)) lock ⌝ }
+{
+    versions::start(state, lock)
+}
+
+// Stores a version of a part: its number, with state, memory and disk as document 02 has it, and in the high half the block; where the
+// number is not 0, no byte changed, and block 0.
+#[no_mangle]
+pub extern "C" fn sockjade_versions_put(
+    state: &mut [u8],
+    memory: &mut [u8],
+    disk: &mut [u8],
+    part: u32,
+    time: u32,
+    content: &[u8],
+) -> u64
+    ensures { λ r. ⌜ calledAt (lowHalf r) (highHalf r) (state .exit) (memory .exit) (disk .exit)
+        ≡ putBytes present (wholeBox present (groups present (now (memory .entry)))) (now (state .entry)) (boxAt (memory .entry) (disk .entry))
+        part time (now (content .entry)) ⌝ }
+{
+    let answered = versions::put(state, memory, disk, part, time, content);
+    two_numbers(answered.number, answered.block)
+}
+
+// Stores the records of a version store: its number, with state, memory and disk as document 02 has it; where the number is not 0, no
+// byte changed.
+#[no_mangle]
+pub extern "C" fn sockjade_versions_flush(
+    state: &mut [u8],
+    memory: &mut [u8],
+    disk: &mut [u8],
+    time: u32,
+) -> u32
+    ensures { λ r. ⌜ calledAt r 0 (state .exit) (memory .exit) (disk .exit)
+        ≡ flushBytes present (wholeBox present (groups present (now (memory .entry)))) (now (state .entry)) (boxAt (memory .entry) (disk .entry)) time ⌝ }
+{
+    versions::flush(state, memory, disk, time)
+}
+
+// The block of a part's newest version: its number, and in the high half the block, or FF FF FF FF for none.
+#[no_mangle]
+pub extern "C" fn sockjade_versions_block(state: &[u8], part: u32) -> u64
+    ensures { λ r. ⌜ locatedOf (lowHalf r) (highHalf r) ≡ lookup present (now (state .entry)) part ⌝ }
+{
+    let answered = versions::block(state, part);
+    two_numbers(answered.number, answered.block)
 }
 
 // Formats a box: 0, with memory and disk as document 01 has it; where the number is not 0, no byte changed.

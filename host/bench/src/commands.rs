@@ -38,7 +38,7 @@ fn host(memory: &mut [u8], disk: &mut [u8], c: &Command, answer: &mut [u8]) -> u
 }
 
 /// What the host's controller makes tags with: the official portable code where it is installed.
-struct Tags;
+pub struct Tags;
 
 impl Digest for Tags {
     #[cfg(official)]

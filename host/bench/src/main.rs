@@ -1,15 +1,21 @@
-//! How fast the archive is, next to other implementations: its digest, its commands and its lists; and
-//! the script program. The words `digest`, `commands`, `lists` and `script` run one part. Nothing here
-//! passes or fails.
+//! How fast the archive is, next to other implementations: its digest, its commands, its lists and its
+//! version store; and the script program. The words `digest`, `commands`, `lists`, `versions` and `script`
+//! run one part. Nothing here passes or fails.
 mod commands;
 mod digest;
 mod lists;
 #[cfg(official)]
 mod official;
 mod script;
+mod versions;
 
-const PARTS: [(&str, fn()); 4] =
-    [("digest", digest::run), ("commands", commands::run), ("lists", lists::run), ("script", script::run)];
+const PARTS: [(&str, fn()); 5] = [
+    ("digest", digest::run),
+    ("commands", commands::run),
+    ("lists", lists::run),
+    ("versions", versions::run),
+    ("script", script::run),
+];
 
 fn median(values: &mut [f64]) -> f64 {
     values.sort_by(f64::total_cmp);

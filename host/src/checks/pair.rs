@@ -105,6 +105,22 @@ impl Pair {
         Err(format!("{}: both answered {got} instead of {number}", self.describe(call)))
     }
 
+    /// One call on memory and disk of each, which are told to be of these lengths: the archive's answer and the host's.
+    pub fn call_both<T>(
+        &mut self,
+        [memory_len, disk_len]: [Option<usize>; 2],
+        archive: impl FnOnce(&mut [u8], &mut [u8]) -> T,
+        own: impl FnOnce(&mut [u8], &mut [u8]) -> T,
+    ) -> (T, T) {
+        self.index += 1;
+        let memory_len = memory_len.unwrap_or(self.memory().len());
+        let disk_len = disk_len.unwrap_or(self.disk().len());
+        let Side { memory, disk, .. } = &mut self.archive;
+        let got = archive(memory.view_mut(memory_len), disk.view_mut(disk_len));
+        let Side { memory, disk, .. } = &mut self.own;
+        (got, own(memory.view_mut(memory_len), disk.view_mut(disk_len)))
+    }
+
     /// A list's pages read, or the number of the question that said no.
     pub fn list(&mut self, list: &List) -> Result<Result<u32, u32>, String> {
         self.index += 1;
@@ -163,7 +179,8 @@ impl Pair {
         self.compare_bytes(right as u32)
     }
 
-    fn compare_bytes(&self, number: u32) -> Result<(), String> {
+    /// Every byte of the five buffers and the canaries, after a call that got this number.
+    pub fn compare_bytes(&self, number: u32) -> Result<(), String> {
         let (a, b) = (&self.archive, &self.own);
         let rooms = [
             ("memory", &a.memory, &b.memory),

@@ -5,8 +5,8 @@ use super::Checked;
 use crate::archive;
 use std::arch::asm;
 
-const MOST: usize = 16 * 1024;
-const PAINTED: usize = 256 * 1024;
+pub const MOST: usize = 16 * 1024;
+pub const PAINTED: usize = 256 * 1024;
 const PAINT: u8 = 0xC5;
 
 pub fn check() -> Checked {
@@ -36,7 +36,7 @@ pub fn check() -> Checked {
 }
 
 /// The bytes of stack that `call` needs.
-fn used(paint: &mut [u8], mut call: &mut dyn FnMut()) -> usize {
+pub fn used(paint: &mut [u8], mut call: &mut dyn FnMut()) -> usize {
     paint.fill(PAINT);
     let end = paint.as_mut_ptr_range().end;
     let top = end.wrapping_sub(end as usize % 16);

@@ -1,0 +1,8 @@
+-- The laws that proofs here and in the crates above cite.
+pub mod PlaceLaw
+pub mod NewestLaw
+pub mod RecordLaw
+pub mod StateLaw
+pub mod FitLaw
+pub mod ReadFitsLaw
+pub mod Theorems

@@ -1,0 +1,2 @@
+-- That a state's bytes and what the store keeps say the same.
+pub mod Claims

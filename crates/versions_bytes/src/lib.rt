@@ -1,0 +1,1 @@
+// The laws of a state's bytes, in proofs/, and what they claim, in specs/Claims.antt: no code.

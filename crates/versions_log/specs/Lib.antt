@@ -1,0 +1,2 @@
+-- What a log block to be filled asks for.
+pub mod Ready

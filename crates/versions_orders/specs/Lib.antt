@@ -1,0 +1,2 @@
+-- What giving an order takes for granted.
+pub mod Ready

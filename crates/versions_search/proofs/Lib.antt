@@ -1,0 +1,3 @@
+-- Laws of the crate.
+pub mod StretchLaw
+pub mod RoundLaw

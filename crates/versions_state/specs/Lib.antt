@@ -1,0 +1,3 @@
+-- The bytes of the version store's state.
+pub mod Layout
+pub mod State

@@ -1,0 +1,2 @@
+-- What the changes of a state ask for.
+pub mod Ready
