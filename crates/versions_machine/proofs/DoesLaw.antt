@@ -89,13 +89,6 @@ module _ {γ : Geometry} (σ : Proper γ) (ρ : Range) where
       entered-reserve : (ν : Versions) (part block : ℕ) → entered ν part block .reserve ≡ ν .reserve
       entered-reserve ν part block = unfold entered in refl
 
-  -- the state after
-  put-after : (ν : Versions) (s : Box) (part now : ℕ) (content : List ℕ)
-      → putPlan γ ρ ν s part now content .after
-      ≡ duePlan γ ρ (entered ν part (nextFor γ ρ s now ν)) (between γ ρ ν s part now content) now .after
-  unfolding putPlan
-  put-after ν s part now content = refl
-
   pub due-full : (ν : Versions) (t : Box) (now : ℕ) → isFull γ ν ≡ true → duePlan γ ρ ν t now ≡ logPlan γ ρ ν t now
   unfolding duePlan
   due-full ν t now e = rw (duePlan, e)
