@@ -30,7 +30,7 @@ use Rattle.versions_machine.specs.Call.{attempted, boxQuestions, put, pu
 use Rattle.versions_machine.specs.Claims.{EachYes, Passes, ordersFrom}
 use Rattle.versions_machine.proofs.CarryLaw.{carried-on, carried-first, carried-rest, carried-number, accepted-done}
 use Rattle.versions_machine.proofs.SoundLaw.{chosen}
-use Rattle.versions_machine.proofs.ForesightLaw.{EachAt, foresees-first, is-foreseen, foreseen-alike}
+use Rattle.versions_machine.proofs.ForesightLaw.{EachAt, Foresees, foresees-first, is-foreseen, foreseen-alike}
 use Rattle.versions_machine.proofs.LogLaw.{log-alike}
 
 module _ {γ : Geometry} (σ : Proper γ) (ρ : Range) where
@@ -146,16 +146,22 @@ module _ {γ : Geometry} (σ : Proper γ) (ρ : Range) where
           (logBlock γ (ν .records) (nextFor γ ρ t now ν)) (log-alike γ (ν .records) (nextFor γ ρ s now ν) (nextFor γ ρ t now ν))
       go false = refl
 
-  pub put-foreseen : (ν : Versions) (s t : Box) (part now : ℕ) (content : List ℕ) → ByteBox s → firstNo (putQuestions γ ρ ν s part now) ≡ 0
-      → put γ ρ ν s part now content .number
-      ≡ foreseen γ (groups γ (s .memory)) (count (s .memory)) (currentEntry γ s) (ordersFrom γ ρ t ν s part now content)
+  -- by counts and entries that are the box's
+  pub put-foreseen-by : (ν : Versions) (s t : Box) (part now : ℕ) (content : List ℕ) (counts : ℕ → ℕ) (entries : ℕ → Entry)
+      → Foresees σ now s counts entries → firstNo (putQuestions γ ρ ν s part now) ≡ 0
+      → put γ ρ ν s part now content .number ≡ foreseen γ (groups γ (s .memory)) counts entries (ordersFrom γ ρ t ν s part now content)
   unfolding put putPlan
-  put-foreseen ν s t part now content b e =
+  put-foreseen-by ν s t part now content counts entries f e =
       let block = nextFor γ ρ s now ν in
       let own = versionOrders γ ν part block now content in
       let plan = putPlan γ ρ ν s part now content in
-      let h = put-asked ν s part now (put-yes ν s part now e) in
       carried-number γ (putQuestions γ ρ ν s part now) block plan ν s e
-      ∙ is-foreseen σ now s (count (s .memory)) (currentEntry γ s) (plan .orders) (put-at ν s part now content)
-      (foresees-first σ now s (h .valid) b (h .later) (h .early))
-      ∙ due-alike (groups γ (s .memory)) (count (s .memory)) (currentEntry γ s) own (entered ν part block) (carriedOut γ s own .box) t now
+      ∙ is-foreseen σ now s counts entries (plan .orders) (put-at ν s part now content) f
+      ∙ due-alike (groups γ (s .memory)) counts entries own (entered ν part block) (carriedOut γ s own .box) t now
+
+  pub put-foreseen : (ν : Versions) (s t : Box) (part now : ℕ) (content : List ℕ) → ByteBox s → firstNo (putQuestions γ ρ ν s part now) ≡ 0
+      → put γ ρ ν s part now content .number
+      ≡ foreseen γ (groups γ (s .memory)) (count (s .memory)) (currentEntry γ s) (ordersFrom γ ρ t ν s part now content)
+  put-foreseen ν s t part now content b e =
+      let h = put-asked ν s part now (put-yes ν s part now e) in
+      put-foreseen-by ν s t part now content (count (s .memory)) (currentEntry γ s) (foresees-first σ now s (h .valid) b (h .later) (h .early)) e

@@ -4,9 +4,9 @@ use mathlib.Core.Bool.{Bool, true, false, _&&_, not, false≢true}
 use mathlib.Mathlib.Data.Bool.Basic.{and-elim-left, and-elim-right}
 use mathlib.Core.Logic.{_⊎_, inl, inr, ⊎-elim}
 use mathlib.Core.List.{List, [], _∷_, _++_}
-use Prim.Native.Nat.{ℕ, zero, suc, _+_, _-_, _≤_, _<_}
+use Prim.Native.Nat.{ℕ, zero, suc, _+_, _≤_, _<_}
 use native.Mathlib.Omega.{arith}
-use borrow.Author.Tests.{leb-true, leb-false, lt-ltb, eqb-false, not-true}
+use borrow.Author.Tests.{leb-true, leb-false, lt-ltb, ltb-true, ltb-false, eqb-false, not-true}
 use lib.ListN.{length}
 use lib.Dec.{eqb, leb, ltb}
 use Rattle.lockpage.specs.Geometry.{Geometry}
@@ -80,6 +80,23 @@ first-below test (a ∷ l) other bound below h = go (first-below test l other bo
     go r true = below a (inl refl)
     go r false = r
 
+-- behind the one last taken, the next block if that passes
+pub first-behind : (test : ℕ → Bool) (a n taken other : ℕ) (rest : List ℕ) → a ≤ taken + 1 → taken + 1 < a + n → test (taken + 1) ≡ true
+    → firstThat test (those (λ b. ltb taken b) (blocksFrom a n) ++ rest) other ≡ taken + 1
+unfolding firstThat those blocksFrom
+first-behind test a zero taken other rest l h t = absurd (omega arith)
+first-behind test a (suc n) taken other rest l h t = go (λ k. first-behind test (a + 1) n taken other rest k (omega arith) t) (ltb taken a) refl
+  where
+    go : (a + 1 ≤ taken + 1 → firstThat test (those (λ b. ltb taken b) (blocksFrom (a + 1) n) ++ rest) other ≡ taken + 1) → (x : Bool) → ltb taken a ≡ x
+        → firstThat test
+        (elim x [ true ↦ a ∷ those (λ b. ltb taken b) (blocksFrom (a + 1) n) | false ↦ those (λ b. ltb taken b) (blocksFrom (a + 1) n) ] ++ rest) other
+        ≡ taken + 1
+    go r true e =
+        let here : a ≡ taken + 1 = omega (arith, ltb-true taken a e) in
+        ap (λ (b : Bool). elim b [ true ↦ a | false ↦ firstThat test (those (λ b. ltb taken b) (blocksFrom (a + 1) n) ++ rest) other ]) (ap test here ∙ t)
+        ∙ here
+    go r false e = r (omega (arith, ltb-false taken a e))
+
 -- one of some blocks that passes a test, and is another than v
 pub record Another (test : ℕ → Bool) (a n v : ℕ) : Type 0 where
   pub block : ℕ
@@ -117,6 +134,31 @@ two-of test a (suc n) v h = go (λ k. wider test a n v (two-of test (a + 1) n v 
         same-or-not a v (λ x. wider test a n v (one-of test (a + 1) n v (omega arith) (omega arith)))
         (λ x. record { block = a; least = omega arith; most = omega arith; passes = e; other = x })
     go r false e k = r k
+
+-- two that pass are two or more
+many-one : (test : ℕ → Bool) (a n b : ℕ) → a ≤ b → b < a + n → test b ≡ true → 1 ≤ length (those test (blocksFrom a n))
+unfolding those blocksFrom
+many-one test a zero b l h t = absurd (omega arith)
+many-one test a (suc n) b l h t = go (λ k. many-one test (a + 1) n b k (omega arith) t) (test a) refl
+  where
+    go : (a + 1 ≤ b → 1 ≤ length (those test (blocksFrom (a + 1) n))) → (x : Bool) → test a ≡ x
+        → 1 ≤ length {A = ℕ} (elim x [ true ↦ a ∷ those test (blocksFrom (a + 1) n) | false ↦ those test (blocksFrom (a + 1) n) ])
+    go r true e = omega arith
+    go r false e =
+        let other : a ≡ b → ⊥ = λ d. false≢true (sym e ∙ ap test d ∙ t) in
+        r (omega arith)
+
+pub many-two : (test : ℕ → Bool) (a n b c : ℕ) → a ≤ b → b < c → c < a + n → test b ≡ true → test c ≡ true → 2 ≤ length (those test (blocksFrom a n))
+unfolding those blocksFrom
+many-two test a zero b c l m h t u = absurd (omega arith)
+many-two test a (suc n) b c l m h t u = go (λ k. many-two test (a + 1) n b c k m (omega arith) t u) (test a) refl
+  where
+    go : (a + 1 ≤ b → 2 ≤ length (those test (blocksFrom (a + 1) n))) → (x : Bool) → test a ≡ x
+        → 2 ≤ length {A = ℕ} (elim x [ true ↦ a ∷ those test (blocksFrom (a + 1) n) | false ↦ those test (blocksFrom (a + 1) n) ])
+    go r true e = omega (arith, many-one test (a + 1) n c (omega arith) (omega arith) u)
+    go r false e =
+        let other : a ≡ b → ⊥ = λ d. false≢true (sym e ∙ ap test d ∙ t) in
+        r (omega arith)
 
 -- ---- going round comes to every block of the range, and to no other, wherever it begins
 

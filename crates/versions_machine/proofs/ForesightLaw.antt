@@ -184,7 +184,7 @@ module _ {γ : Geometry} (σ : Proper γ) where
       refusal-left s o (counts (groupOf γ (o .block))) (entries (o .block)) (f .valid) (omega (arith, f .later)) (omega (arith, f .early))
       (λ l. f .counted (groupOf γ (o .block)) (groupOf-below σ (groups γ (s .memory)) (o .block) l)) (λ l. f .found (o .block) l)
 
-  foresees-next : (now : ℕ) (s : Box) (counts : ℕ → ℕ) (entries : ℕ → Entry) (o : Order) → Foresees now s counts entries → o .now ≡ now
+  pub foresees-next : (now : ℕ) (s : Box) (counts : ℕ → ℕ) (entries : ℕ → Entry) (o : Order) → Foresees now s counts entries → o .now ≡ now
       → refusal γ s (given γ s o) ≡ 0 → Foresees now (step γ s (given γ s o) .box) (countsAfter γ counts o) (entriesAfter entries o)
   foresees-next now s counts entries o f t r =
       let c = given γ s o in
@@ -264,9 +264,18 @@ module _ {γ : Geometry} (σ : Proper γ) where
       ∙ left
       ∙ sym (foreseen-stops γ G counts entries o os (λ a. z (left ∙ a))))
 
--- ---- of the last order's content only the length counts
+-- ---- counts that are small before an order are small after it
 
 module _ (γ : Geometry) where
+  pub counts-few : (counts : ℕ → ℕ) (o : Order) (k n : ℕ) → counts (groupOf γ (o .block)) ≤ n → counts k ≤ n → countsAfter γ counts o k ≤ n + 1
+  counts-few counts o k n own other = go (eqb k (groupOf γ (o .block)))
+    where
+      go : (x : Bool) → elim x [ true ↦ counts (groupOf γ (o .block)) + 1 | false ↦ counts k ] ≤ n + 1
+      go true = omega arith
+      go false = omega arith
+
+  -- ---- of the last order's content only the length counts
+
   pub foreseen-alike : (G : ℕ) (counts : ℕ → ℕ) (entries : ℕ → Entry) (os : List Order) (u : Update) (b now : ℕ) (x y : List ℕ)
       → length x ≡ length y
       → foreseen γ G counts entries (os ++ (orderOf u b now x ∷ [])) ≡ foreseen γ G counts entries (os ++ (orderOf u b now y ∷ []))

@@ -10,7 +10,9 @@ pub mod AcceptLaw
 pub mod FactsLaw
 pub mod OrdersLaw
 pub mod DoesLaw
+pub mod FreshLaw
 pub mod FirstLaw
+pub mod ReplaceLaw
 pub mod FullLaw
 pub mod ChainLaw
 pub mod HistoryLaw

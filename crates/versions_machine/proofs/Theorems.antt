@@ -6,14 +6,15 @@ use Rattle.lockpage.specs.Geometry.{Geometry, Proper}
 use Rattle.versions_machine.specs.Versions.{Range}
 use Rattle.versions_machine.specs.Run.{Call, PutPart, Site, startSite, called, calls, Throughout}
 use Rattle.versions_machine.specs.Claims.{ReadsBack, StoreAlone, NotPutAgain, Newest, NewestReadsBack, NewestIsKnown, PutPassesIfAllYes}
-use Rattle.versions_machine.specs.Claims.{FlushPassesIfAllYes}
-use Rattle.versions_machine.specs.Claims.{PutIsForeseen, RefusalAltersNothing, FirstPutIsAccepted, FirstFlushIsAccepted, FullPutIsAccepted}
+use Rattle.versions_machine.specs.Claims.{FlushPassesIfAllYes, PutIsForeseen, RefusalAltersNothing, FirstPutIsAccepted, ReplacingPutIsAccepted}
+use Rattle.versions_machine.specs.Claims.{FirstFlushIsAccepted, FullPutIsAccepted}
 use Rattle.versions_machine.specs.After.{AcceptedPutDoes, AcceptedFlushDoes}
 use Rattle.versions_machine.specs.History.{LogIsWhole}
 use Rattle.versions_machine.proofs.HistoryLaw.{log-tells}
 use Rattle.versions_machine.proofs.DoesLaw.{put-does, flush-does}
 use Rattle.versions_machine.proofs.CarryLaw.{put-unaltered, flush-unaltered}
 use Rattle.versions_machine.proofs.FirstLaw as first
+use Rattle.versions_machine.proofs.ReplaceLaw as replace
 use Rattle.versions_machine.proofs.FullLaw as full
 use Rattle.versions_machine.proofs.AcceptLaw.{put-passes, flush-passes, put-foreseen}
 use Rattle.versions_machine.proofs.RunLaw.{Kept, Tracked, start-kept, put-tracked, calls-append, throughout-front, throughout-back, calls-kept}
@@ -22,6 +23,9 @@ use Rattle.versions_machine.proofs.RunLaw.{calls-tracked, held-read}
 module _ {γ : Geometry} (σ : Proper γ) where
   pub first-put-is-accepted : FirstPutIsAccepted γ
   first-put-is-accepted = first.first-put-is-accepted σ
+
+  pub replacing-put-is-accepted : ReplacingPutIsAccepted γ
+  replacing-put-is-accepted = replace.replacing-put-is-accepted σ
 
   pub full-put-is-accepted : FullPutIsAccepted γ
   full-put-is-accepted = full.full-put-is-accepted σ

@@ -146,11 +146,19 @@ module _ (γ : Geometry) where
       → (put γ (wholeBox γ g) (start firstBlock lock) (format γ s g salt .box) part now content .number ≡ 0)
       × (put γ (wholeBox γ g) (start firstBlock lock) (format γ s g salt .box) part now content .block ≡ 1)
 
+  -- the next put of that part replaces the version, and is accepted too: it answers block 2
+  unfoldable pub ReplacingPutIsAccepted : Type 0
+  ReplacingPutIsAccepted = (s : Box) (g : ℕ) (salt : List ℕ) (lock part first second : ℕ) (old content : List ℕ) → format γ s g salt .number ≡ 0
+      → firstNo (startQuestions lock) ≡ 0 → part ≤ lastPart → first ≤ second → second ≤ latestTime → length old ≡ blockSize γ
+      → length content ≡ blockSize γ → 4 ≤ γ .entries → 4 ≤ dataBlocks γ g
+      → let x = calls γ (wholeBox γ g) (startSite γ (wholeBox γ g) lock (format γ s g salt .box)) (PutPart part first old ∷ []) in
+      (putAt γ (wholeBox γ g) x part second content .number ≡ 0) × (putAt γ (wholeBox γ g) x part second content .block ≡ 2)
+
   -- and so is a put whose record fills a log block: of a store that has all the other records, and no part yet
   unfoldable pub FullPutIsAccepted : Type 0
   FullPutIsAccepted = (s : Box) (g : ℕ) (salt : List ℕ) (lock part now : ℕ) (content : List ℕ) (records : List Record)
       → format γ s g salt .number ≡ 0 → firstNo (startQuestions lock) ≡ 0 → part ≤ lastPart → now ≤ latestTime → length content ≡ blockSize γ
-      → length records + 1 ≡ recordsPerBlock γ → 3 ≤ γ .entries → 3 ≤ dataBlocks γ g → ByteBox (format γ s g salt .box)
+      → length records + 1 ≡ recordsPerBlock γ → 3 ≤ γ .entries → 3 ≤ dataBlocks γ g
       → put γ (wholeBox γ g) (versionsOf lock (λ p. none) records firstBlock firstBlock) (format γ s g salt .box) part now content .number ≡ 0
 
   -- and a store on demand, of a store that has one record
