@@ -23,7 +23,7 @@ use Rattle.versions_machine.proofs.FactsLaw.{lock-limits, facts-sound}
 use Rattle.versions_state.specs.State.{isRecord, stateBytes, versionsIn, isValid}
 use Rattle.versions_bytes.specs.Claims.{Fits}
 use Rattle.versions_bytes.proofs.FitLaw.{handed-on}
-use Rattle.versions.specs.Call.{Called, handed, startBytes, roomQuestions, putBytes, flushBytes}
+use Rattle.versions.specs.Call.{Called, handed, startBytes, bufferQuestions, putBytes, flushBytes}
 use Rattle.versions.specs.Run.{Buffers, buffersOf, calledOn, callsOn}
 use Rattle.versions.specs.Claims.{HasNumbers, Follows}
 use Rattle.versions.proofs.FitsLaw.{put-fits, flush-fits}
@@ -112,18 +112,18 @@ module _ {γ : Geometry} (σ : Proper γ) where
 
     -- ---- a start
 
-    start-yes : (room : List ℕ) (lock : ℕ) → startBytes γ (ρ .first) room lock .number ≡ 0 → firstNo (roomQuestions γ room lock) ≡ 0
+    start-yes : (buffer : List ℕ) (lock : ℕ) → startBytes γ (ρ .first) buffer lock .number ≡ 0 → firstNo (bufferQuestions γ buffer lock) ≡ 0
     unfolding startBytes
-    start-yes room lock a =
-        let n = firstNo (roomQuestions γ room lock) in
+    start-yes buffer lock a =
+        let n = firstNo (bufferQuestions γ buffer lock) in
         same-or-not n 0 (λ e. e) (λ d. absurd (d (rw (startBytes, ne-eqb n 0 d) refl ∙ a)))
 
-    pub start-has : 1 ≤ recordsPerBlock γ → (room : List ℕ) (lock : ℕ) (s : Box) → startBytes γ (ρ .first) room lock .number ≡ 0
-        → Has (buffersOf (startBytes γ (ρ .first) room lock .state) s) (startSite γ ρ lock s)
+    pub start-has : 1 ≤ recordsPerBlock γ → (buffer : List ℕ) (lock : ℕ) (s : Box) → startBytes γ (ρ .first) buffer lock .number ≡ 0
+        → Has (buffersOf (startBytes γ (ρ .first) buffer lock .state) s) (startSite γ ρ lock s)
     unfolding startBytes start startQuestions numberedTo
-    start-has least room lock s a =
-        let qs = roomQuestions γ room lock in
-        let e = start-yes room lock a in
+    start-has least buffer lock s a =
+        let qs = bufferQuestions γ buffer lock in
+        let e = start-yes buffer lock a in
         let l = lock-limits lock (accepted-yes 10 qs refl e .1 .0) in
         record {
           fits =

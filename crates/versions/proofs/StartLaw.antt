@@ -14,35 +14,35 @@ use Rattle.versions_machine.specs.Versions.{blockNumber, isLock, start, startQu
 use Rattle.versions_machine.specs.Call.{lastPart}
 use Rattle.versions_state.specs.Layout.{stateSize}
 use Rattle.versions_state.specs.State.{stateBytes, versionsIn, isValid}
-use Rattle.versions.specs.Call.{startedOf, locatedOf, roomQuestions, startBytes, lookupQuestions, lookup}
+use Rattle.versions.specs.Call.{startedOf, locatedOf, bufferQuestions, startBytes, lookupQuestions, lookup}
 
 module _ {γ : Geometry} (σ : Proper γ) where
   -- ---- a start
 
-  module _ (first : ℕ) (room : List ℕ) (lock : ℕ) where
-    refused : (n : ℕ) → n ≡ firstNo (roomQuestions γ room lock) → (n ≡ 0 → ⊥) → startedOf n room ≡ startBytes γ first room lock
+  module _ (first : ℕ) (buffer : List ℕ) (lock : ℕ) where
+    refused : (n : ℕ) → n ≡ firstNo (bufferQuestions γ buffer lock) → (n ≡ 0 → ⊥) → startedOf n buffer ≡ startBytes γ first buffer lock
     unfolding startBytes
     refused n e d =
-        rw (startBytes, ne-eqb (firstNo (roomQuestions γ room lock)) 0 (λ z. d (e ∙ z))) (ap (λ (k : ℕ). startedOf k room) e)
+        rw (startBytes, ne-eqb (firstNo (bufferQuestions γ buffer lock)) 0 (λ z. d (e ∙ z))) (ap (λ (k : ℕ). startedOf k buffer) e)
 
-    pub no-room : (length room ≡ stateSize γ → ⊥) → startedOf 1 room ≡ startBytes γ first room lock
-    no-room d =
-        refused 1 (says-no 1 (Put 1 (eqb (length room) (stateSize γ))) (startQuestions lock) false refl (sym (ne-eqb (length room) (stateSize γ) d)) refl)
+    pub wrong-size : (length buffer ≡ stateSize γ → ⊥) → startedOf 1 buffer ≡ startBytes γ first buffer lock
+    wrong-size d =
+        refused 1 (says-no 1 (Put 1 (eqb (length buffer) (stateSize γ))) (startQuestions lock) false refl (sym (ne-eqb (length buffer) (stateSize γ) d)) refl)
         (λ z. omega arith)
 
-    module _ (size : length room ≡ stateSize γ) where
-      asked : firstNo (roomQuestions γ room lock) ≡ firstNo (startQuestions lock)
-      asked = passes-on (Put 1 (eqb (length room) (stateSize γ)) ∷ []) (startQuestions lock) (eq-eqb (length room) (stateSize γ) size, tt)
+    module _ (size : length buffer ≡ stateSize γ) where
+      asked : firstNo (bufferQuestions γ buffer lock) ≡ firstNo (startQuestions lock)
+      asked = passes-on (Put 1 (eqb (length buffer) (stateSize γ)) ∷ []) (startQuestions lock) (eq-eqb (length buffer) (stateSize γ) size, tt)
 
-      pub no-lock : isLock lock ≡ false → startedOf 10 room ≡ startBytes γ first room lock
+      pub no-lock : isLock lock ≡ false → startedOf 10 buffer ≡ startBytes γ first buffer lock
       unfolding startQuestions
       no-lock f = refused 10 (says-no 10 (Put 10 (isLock lock)) [] false refl (sym f) refl ∙ sym asked) (λ z. omega arith)
 
-      pub started : isLock lock ≡ true → startedOf 0 (stateBytes γ (start first lock)) ≡ startBytes γ first room lock
+      pub started : isLock lock ≡ true → startedOf 0 (stateBytes γ (start first lock)) ≡ startBytes γ first buffer lock
       unfolding startBytes startQuestions
       started l =
           let yes = asked ∙ yes-accepted (startQuestions lock) (l, tt) in
-          rw (startBytes, eq-eqb (firstNo (roomQuestions γ room lock)) 0 yes)
+          rw (startBytes, eq-eqb (firstNo (bufferQuestions γ buffer lock)) 0 yes)
 
   -- ---- a lookup
 

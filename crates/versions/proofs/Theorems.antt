@@ -11,7 +11,7 @@ use Rattle.versions.proofs.FollowLaw.{follows, start-has, calls-have}
 module _ {γ : Geometry} (σ : Proper γ) (ρ : Range) where
   pub bytes-follow : BytesFollow γ ρ
   unfolding BytesFollow
-  bytes-follow numbers least room lock s cs a =
-      let x = buffersOf (startBytes γ (ρ .first) room lock .state) s in
+  bytes-follow numbers least buffer lock s cs a =
+      let x = buffersOf (startBytes γ (ρ .first) buffer lock .state) s in
       let y = startSite γ ρ lock s in
-      follows σ ρ numbers (callsOn γ ρ x cs) (calls γ ρ y cs) (calls-have σ ρ numbers x y cs (start-has σ ρ numbers least room lock s a))
+      follows σ ρ numbers (callsOn γ ρ x cs) (calls γ ρ y cs) (calls-have σ ρ numbers x y cs (start-has σ ρ numbers least buffer lock s a))

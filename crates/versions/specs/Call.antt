@@ -42,15 +42,15 @@ abbrev pub locatedOf : ℕ → ℕ → Located
 locatedOf number block = record { number = number; block = block }
 
 module _ (γ : Geometry) where
-  -- "a lock R, named once at its start": 1, of the room for the state; then 10
-  abbrev pub roomQuestions : List ℕ → ℕ → List Question
-  roomQuestions room lock = Put 1 (eqb (length room) (stateSize γ)) ∷ startQuestions lock
+  -- "a lock R, named once at its start": 1, of the buffer for the state; then 10
+  abbrev pub bufferQuestions : List ℕ → ℕ → List Question
+  bufferQuestions buffer lock = Put 1 (eqb (length buffer) (stateSize γ)) ∷ startQuestions lock
 
   unfoldable pub startBytes : ℕ → List ℕ → ℕ → Started
-  startBytes first room lock =
-      elim (eqb (firstNo (roomQuestions room lock)) 0) [
+  startBytes first buffer lock =
+      elim (eqb (firstNo (bufferQuestions buffer lock)) 0) [
         | true ↦ startedOf 0 (stateBytes γ (start first lock))
-        | false ↦ startedOf (firstNo (roomQuestions room lock)) room
+        | false ↦ startedOf (firstNo (bufferQuestions buffer lock)) buffer
       ]
 
   -- the office's lookup: "13, part number over 255, asked first"; then 1, of the state

@@ -30,7 +30,7 @@ module _ (γ : Geometry) (ρ : Range) where
         → putBytes γ ρ (x .state) (x .box) part now content .block ≡ putAt γ ρ y part now content .block
     pub flush-number : (now : ℕ) → flushBytes γ ρ (x .state) (x .box) now .number ≡ flush γ ρ (y .versions) (y .box) now .number
 
-  -- "its state handed on from its start": whatever the room held, the box holds, and the calls are. A log block has room for a record
+  -- "its state handed on from its start": whatever the buffer held, the box holds, and the calls are. A log block has room for a record
   unfoldable pub BytesFollow : Type 0
-  BytesFollow = HasNumbers ρ → 1 ≤ recordsPerBlock γ → (room : List ℕ) (lock : ℕ) (s : Box) (cs : List Call) → startBytes γ (ρ .first) room lock .number ≡ 0
-      → Follows (callsOn γ ρ (buffersOf (startBytes γ (ρ .first) room lock .state) s) cs) (calls γ ρ (startSite γ ρ lock s) cs)
+  BytesFollow = HasNumbers ρ → 1 ≤ recordsPerBlock γ → (buffer : List ℕ) (lock : ℕ) (s : Box) (cs : List Call) → startBytes γ (ρ .first) buffer lock .number ≡ 0
+      → Follows (callsOn γ ρ (buffersOf (startBytes γ (ρ .first) buffer lock .state) s) cs) (calls γ ρ (startSite γ ρ lock s) cs)

@@ -27,17 +27,17 @@ fn refused(number: u32) -> Answered
     }
 }
 
-// Starts a store with a lock: its state in room.
-pub fn start(room: &mut [u8], lock: u32) -> u32
-    ensures { λ r. ⌜ startedAt r (room .exit) ≡ startBytes present firstBlock (now (room .entry)) lock ⌝ }
+// Starts a store with a lock: its state in buffer.
+pub fn start(buffer: &mut [u8], lock: u32) -> u32
+    ensures { λ r. ⌜ startedAt r (buffer .exit) ≡ startBytes present firstBlock (now (buffer .entry)) lock ⌝ }
 {
-    if room.len() != versions_state::layout::STATE_SIZE {
+    if buffer.len() != versions_state::layout::STATE_SIZE {
         return machine::MEMORY_INVALID;
     }
     if !versions_state::is_lock(lock) {
         return machine::LIMIT_EXCEEDED;
     }
-    versions_updates::start(room, lock);
+    versions_updates::start(buffer, lock);
     machine::ACCEPTED
 }
 

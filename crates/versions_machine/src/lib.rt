@@ -11,3 +11,6 @@ pub const LAST_PART: u32 = 255;
 
 // In the place of a block: none.
 pub const NO_BLOCK: u32 = 4294967295;
+
+// The first block that a store may use.
+pub const FIRST_BLOCK: u32 = 0;

@@ -1,4 +1,4 @@
--- Whether a block is available, and the first that is in a stretch of blocks, step by step as the code goes. Assumes nothing.
+-- Whether a block is available, and the first that is in an interval of blocks, step by step as the code goes. Assumes nothing.
 use mathlib.Core.Path.{_≡_, refl, ap, ap₂, sym, _∙_}
 use mathlib.Core.Bool.{Bool, true, false, not}
 use mathlib.Core.List.{List, _∷_}
@@ -52,9 +52,9 @@ module _ (test : ℕ → Bool) (block end : ℕ) where
       let none-left : end - block ≡ 0 = omega arith in
       ap (λ (n : ℕ). firstThat test (blocksFrom block n) end) none-left
 
--- ---- what a search of a stretch has found
+-- ---- what a search of an interval has found
 
--- how many of a stretch pass the test
+-- how many of an interval pass the test
 abbrev pub passing : (ℕ → Bool) → ℕ → ℕ → ℕ
 passing test from end = length (those test (blocksFrom from (end - from)))
 
@@ -68,7 +68,7 @@ pub record NoneOf (test : ℕ → Bool) (n from : ℕ) : Type 0 where
   pub first : (other : ℕ) → firstThat test (blocksFrom from n) other ≡ other
   pub passing : length (those test (blocksFrom from n)) ≡ 0
 
--- the same of a stretch
+-- the same of an interval
 abbrev pub Hit : (ℕ → Bool) → ℕ → ℕ → ℕ → Type 0
 Hit test from end r = FirstOf test (end - from) from end r
 
@@ -105,7 +105,7 @@ module _ (test : ℕ → Bool) (end : ℕ) where
           let later = more f in
           record { first = λ other. rw t (later .first other); passing = rw t (later .passing) }
 
-  -- r is what the search of a stretch came to
+  -- r is what the search of an interval came to
   module _ (from r : ℕ) (ordered : from ≤ end) (f : r ≡ firstThat test (blocksFrom from (end - from)) end) where
     pub hit : r < end → Hit test from end r
     hit h = hit-of (end - from) from r (omega arith) f h

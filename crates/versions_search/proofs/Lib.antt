@@ -1,3 +1,3 @@
 -- Laws of the crate.
-pub mod StretchLaw
+pub mod IntervalLaw
 pub mod RoundLaw

@@ -1,4 +1,4 @@
--- Going round is two stretches, so that two searches find the block that is allocated next, and whether there is another. Assumes nothing.
+-- Going round is two intervals, so that two searches find the block that is allocated next, and whether there is another. Assumes nothing.
 use mathlib.Core.Path.{_≡_, refl, ap, ap₂, sym, _∙_}
 use mathlib.Core.Bool.{Bool, true, false}
 use mathlib.Core.List.{List, [], _∷_, _++_, append-nil}
@@ -13,8 +13,8 @@ use Rattle.memory.specs.Memory.{groups}
 use Rattle.machine.specs.Command.{Box}
 use Rattle.versions_machine.specs.Versions.{Range}
 use Rattle.versions_machine.specs.Allocation.{blocksFrom, those, goingRound, firstThat, isAvailable, wholeBox, nextAvailable, twoAvailable}
-use Rattle.versions_search.specs.Stretch.{Behind}
-use Rattle.versions_search.proofs.StretchLaw.{passing, Hit, Miss, hit, miss}
+use Rattle.versions_search.specs.Ready.{Behind}
+use Rattle.versions_search.proofs.IntervalLaw.{passing, Hit, Miss, hit, miss}
 
 -- ---- lists of blocks
 
@@ -64,7 +64,7 @@ module _ (end taken start : ℕ) (b : Behind taken end start) where
   whole : blocksFrom 0 end ≡ blocksFrom 0 (start - 0) ++ blocksFrom start (end - start)
   whole = blocks-split 0 (start - 0) (end - start) start end (omega arith) (omega (arith, b .within))
 
-  -- those of all blocks that pass a test, by the two stretches
+  -- those of all blocks that pass a test, by the two intervals
   those-round : (test : ℕ → Bool) → those test (blocksFrom 0 end)
       ≡ those test (blocksFrom 0 (start - 0)) ++ those test (blocksFrom start (end - start))
   those-round test = ap (those test) whole ∙ those-append test (blocksFrom 0 (start - 0)) (blocksFrom start (end - start))
@@ -113,7 +113,7 @@ module _ (γ : Geometry) (s : Box) (now reserve taken end start : ℕ) (e : end 
   unfolding nextAvailable
   next-round = first-round end taken start b test ρ refl (sym e)
 
-  -- in the first stretch
+  -- in the first interval
   pub next-first : (r : ℕ) → Hit test start end r → r ≡ nextAvailable γ ρ s now reserve taken
   next-first r h = sym (next-round ∙ h .first _)
 
@@ -139,7 +139,7 @@ module _ (γ : Geometry) (s : Box) (now reserve taken end start : ℕ) (e : end 
       go true h = h ∙ sym (le-leb 2 (passing test 0 start + passing test start end) (enough (ltb-true q bound h)))
       go false h = h ∙ sym (lt-leb 2 (passing test 0 start + passing test start end) (few (ltb-false q bound h)))
 
-  -- both in the first stretch
+  -- both in the first interval
   pub two-first : (r q : ℕ) → Hit test start end r → q < end → Hit test (r + 1) end q → ltb q end ≡ twoAvailable γ ρ s now reserve
   two-first r q h l k =
       lt-ltb q end l

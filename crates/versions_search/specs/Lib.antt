@@ -1,2 +1,2 @@
 -- What a search takes for granted, and where it begins.
-pub mod Stretch
+pub mod Ready

@@ -1,4 +1,4 @@
--- A stretch of blocks that is searched. Assumes nothing: these are definitions.
+-- An interval of blocks that is searched. Assumes nothing: these are definitions.
 use Prim.Native.Nat.{ℕ, _+_, _≤_, _<_}
 use Rattle.lockpage.specs.Geometry.{Geometry}
 use Rattle.addressing.specs.Map.{dataBlocks}
@@ -8,8 +8,8 @@ use Rattle.machine.specs.Claims.{ValidBox}
 
 -- γ is the box's geometry
 module _ (γ : Geometry) where
-  -- a valid box, and a stretch of its blocks
-  pub record StretchReady (s : Box) (from end : ℕ) : Type 0 where
+  -- a valid box, and an interval of its blocks
+  pub record SearchReady (s : Box) (from end : ℕ) : Type 0 where
     pub box : ValidBox γ s
     pub ordered : from ≤ end
     pub within : end ≤ dataBlocks γ (groups γ (s .memory))

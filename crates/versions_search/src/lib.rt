@@ -12,9 +12,10 @@ ghost use Rattle.validity.specs.Valid.{valid};
 ghost use Rattle.machine.specs.Call.{boxAt};
 ghost use Rattle.machine.specs.Claims.{ValidBox};
 ghost use Rattle.versions_machine.specs.Allocation.{isFree, isAvailable, blocksFrom, firstThat, wholeBox, nextAvailable, twoAvailable};
-ghost use Rattle.versions_search.specs.Stretch.{StretchReady, Behind};
+ghost use Rattle.versions_search.specs.Ready.{SearchReady, Behind};
 use lockpage::State;
 use lockpage::states;
+use versions_machine::FIRST_BLOCK;
 
 // The block that is allocated next, and whether another one besides it is available.
 pub struct Found {
@@ -43,7 +44,7 @@ fn is_available(memory: &[u8], disk: &[u8], time: u32, reserve: u32, block: u32)
 
 // The first available block from one on, before the end, or the end where there is none.
 fn next_in(memory: &[u8], disk: &[u8], time: u32, reserve: u32, from: u32, end: u32) -> u32
-    requires { ⌜ StretchReady present (boxAt memory disk) from end ⌝ }
+    requires { ⌜ SearchReady present (boxAt memory disk) from end ⌝ }
     ensures { λ r. ⌜ r ≡ firstThat (isAvailable present (boxAt (memory .entry) (disk .entry)) time reserve) (blocksFrom from (end - from)) end ⌝ }
 {
     let mut block = from;
@@ -83,7 +84,7 @@ pub fn next(memory: &[u8], disk: &[u8], time: u32, reserve: u32, taken: u32) -> 
     if first < end {
         return first;
     }
-    let second = next_in(memory, disk, time, reserve, 0, start);
+    let second = next_in(memory, disk, time, reserve, FIRST_BLOCK, start);
     if second < start { second } else { taken }
 }
 
@@ -99,13 +100,13 @@ pub fn two(memory: &[u8], disk: &[u8], time: u32, reserve: u32, taken: u32) -> F
     let later = next_in(memory, disk, time, reserve, start, end);
     if later < end {
         let another = next_in(memory, disk, time, reserve, later + 1, end) < end
-            || next_in(memory, disk, time, reserve, 0, start) < start;
+            || next_in(memory, disk, time, reserve, FIRST_BLOCK, start) < start;
         return Found {
             block: later,
             two: another,
         };
     }
-    let earlier = next_in(memory, disk, time, reserve, 0, start);
+    let earlier = next_in(memory, disk, time, reserve, FIRST_BLOCK, start);
     if earlier < start {
         let another = next_in(memory, disk, time, reserve, earlier + 1, start) < start;
         return Found {

@@ -36,9 +36,6 @@ pub const UNUSED: u8 = 255;
 // The data blocks of the largest box.
 pub const MOST_BLOCKS: u32 = lockpage::ENTRIES_PER_PAGE as u32 * memory::layout::MOST_GROUPS;
 
-// The first block that a store may use.
-pub const FIRST_BLOCK: u32 = 0;
-
 // Where a part's newest block stands.
 pub fn newest_start(part: u32) -> usize
     ensures { λ r. ⌜ r ≡ newestStart part ⌝ }

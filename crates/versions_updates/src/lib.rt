@@ -13,6 +13,7 @@ ghost use Rattle.versions_machine.specs.Call.{lastPart};
 ghost use Rattle.versions_state.specs.Layout.{fieldSize, newestStart, mostRecords, stateSize};
 ghost use Rattle.versions_state.specs.State.{stateBytes, versionsIn, isValid};
 ghost use Rattle.versions_updates.specs.Ready.{EnterReady};
+use versions_machine::FIRST_BLOCK;
 use versions_state::layout;
 
 // Makes the state that of a store just started.
@@ -21,8 +22,8 @@ pub fn start(state: &mut [u8], lock: u32)
     ensures { λ _. ⌜ now (state .exit) ≡ stateBytes present (M.start firstBlock lock) ⌝ }
 {
     octets::store_u32(state, layout::LOCK_START, lock);
-    octets::store_u32(state, layout::RESERVE_START, layout::FIRST_BLOCK);
-    octets::store_u32(state, layout::TAKEN_START, layout::FIRST_BLOCK);
+    octets::store_u32(state, layout::RESERVE_START, FIRST_BLOCK);
+    octets::store_u32(state, layout::TAKEN_START, FIRST_BLOCK);
     octets::store_u32(state, layout::RECORD_COUNT_START, 0);
     octets::fill(
         state,

@@ -5,12 +5,12 @@ use mathlib.Mathlib.Data.Bool.Basic.{eq-true-of-not-eq-false', eq-false-of-not-e
 use native.Mathlib.Omega.{arith}
 use Rattle.lockpage.proofs.GeometryLaw.{present-proper as σ}
 use Rattle.versions.specs.Call.{startedOf}
-use Rattle.versions.proofs.StartLaw.{no-room, no-lock, started}
+use Rattle.versions.proofs.StartLaw.{wrong-size, no-lock, started}
 use Rattle.versions.proofs.start.Statement.{statement}
 use Rattle.versions.proofs.start.Tie as tie
 
-room-size : tie.Need-returns
-room-size c = no-room σ _ _ _ (c .if1 .taken)
+buffer-size : tie.Need-returns
+buffer-size c = wrong-size σ _ _ _ (c .if1 .taken)
 
 lock-size : tie.Need-returns-2
 lock-size c =
@@ -27,4 +27,4 @@ stored c =
     ∙ started σ _ _ _ (omega (arith, last .before .before .if1 .left)) (sym (last .before .is-lock .ensures) ∙ eq-true-of-not-eq-false' (last .if2 .left))
 
 pub start-spec : {M : Type 1} → statement M
-start-spec = tie.close (tie.spec room-size (λ c κs. search needs) lock-size start-requires (λ c. search needs) stored)
+start-spec = tie.close (tie.spec buffer-size (λ c κs. search needs) lock-size start-requires (λ c. search needs) stored)

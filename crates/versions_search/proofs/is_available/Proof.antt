@@ -1,6 +1,6 @@
 -- `versions_search::is_available` meets its contract. Assumes nothing.
 use borrow.Author.Needs.{needs}
-use Rattle.versions_search.proofs.StretchLaw.{available-free, not-available}
+use Rattle.versions_search.proofs.IntervalLaw.{available-free, not-available}
 use Rattle.versions_search.proofs.is_available.Statement.{statement}
 use Rattle.versions_search.proofs.is_available.Tie as tie
 

@@ -1,8 +1,8 @@
--- `versions_search::next` meets its contract: of the two stretches, the first that has an available block. Assumes nothing.
+-- `versions_search::next` meets its contract: of the two intervals, the first that has an available block. Assumes nothing.
 use borrow.Author.Needs.{needs}
 use native.Mathlib.Omega.{arith}
 use Rattle.lockpage.specs.Geometry.{present}
-use Rattle.versions_search.proofs.StretchLaw.{hit, miss}
+use Rattle.versions_search.proofs.IntervalLaw.{hit, miss}
 use Rattle.versions_search.proofs.RoundLaw.{next-first, next-second, next-none}
 use Rattle.versions_search.proofs.next.Statement.{statement}
 use Rattle.versions_search.proofs.next.Tie as tie

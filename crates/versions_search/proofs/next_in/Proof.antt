@@ -8,7 +8,7 @@ use Rattle.lockpage.proofs.GeometryLaw.{present-proper as σ}
 use Rattle.disk.proofs.DiskLaw.{hasGroup-of}
 use Rattle.validity.proofs.ValidLaw.{facts}
 use Rattle.machine.specs.Command.{boxOf}
-use Rattle.versions_search.proofs.StretchLaw.{found-here, not-here, nowhere}
+use Rattle.versions_search.proofs.IntervalLaw.{found-here, not-here, nowhere}
 use Rattle.versions_machine.specs.Allocation.{isAvailable, blocksFrom, firstThat}
 use Rattle.versions_search.proofs.next_in.Statement.{statement}
 use Rattle.versions_search.proofs.next_in.Tie as tie

@@ -3,7 +3,7 @@
 use borrow.Author.Needs.{needs}
 use native.Mathlib.Omega.{arith}
 use Rattle.lockpage.specs.Geometry.{present}
-use Rattle.versions_search.proofs.StretchLaw.{hit, miss}
+use Rattle.versions_search.proofs.IntervalLaw.{hit, miss}
 use Rattle.versions_search.proofs.RoundLaw.{next-first, next-second, next-none, two-first, two-apart, two-second, two-none}
 use Rattle.versions_search.proofs.two.Statement.{statement}
 use Rattle.versions_search.proofs.two.Tie as tie
