@@ -4,7 +4,7 @@ use mathlib.Core.List.{List}
 use Prim.Native.Nat.{ℕ}
 use Rattle.machine.specs.Command.{Box}
 use Rattle.machine.specs.Query.{QueryOutcome, queryOutcomeOf}
-use Rattle.versions.specs.Call.{Called, calledOf, Located, locatedOf}
+use Rattle.versions_bytes.specs.Call.{Called, calledOf, Located, locatedOf}
 
 module _ (low high number second : ℕ) (el : low ≡ number) (eh : high ≡ second) where
   from-halves : {A : Type 0} (outcome : ℕ → ℕ → A) (x : A) → outcome number second ≡ x → outcome low high ≡ x

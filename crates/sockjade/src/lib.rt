@@ -1,6 +1,6 @@
 // The functions that a C service calls. A slice crosses as a pointer and a length. No call has a precondition, and each
 // contract fixes the number answered and every byte of each buffer: the digest's by specs/, the version
-// store's by the definitions of versions, the others by those of machine.
+// store's by the definitions of versions_bytes, the others by those of machine.
 ghost use mathlib.Core.Path.{_≡_};
 ghost use Rattle.lockpage.specs.Geometry.{present};
 ghost use Rattle.machine.specs.Step.{step};
@@ -9,7 +9,7 @@ ghost use Rattle.machine.specs.Query.{queryStep};
 ghost use Rattle.machine.specs.Call.{boxAt, commandAt, outcomeAt, formatOutcomeAt, queryAt, queryOutcomeAt, lowHalf, highHalf};
 ghost use Rattle.memory.specs.Memory.{groups};
 ghost use Rattle.versions_machine.specs.Allocation.{firstBlock, wholeBox};
-ghost use Rattle.versions.specs.Call.{locatedOf, calledAt, startedAt, startBytes, lookup, putBytes, flushBytes};
+ghost use Rattle.versions_bytes.specs.Call.{locatedOf, calledAt, startedAt, startBytes, lookup, putBytes, flushBytes};
 ghost use Rattle.sockjade.specs.Digest.{digestOutcome, digestCall};
 
 const LONGEST_INPUT: usize = 65536;

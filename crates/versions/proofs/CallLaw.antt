@@ -19,10 +19,10 @@ use Rattle.versions_machine.specs.Call.{lastPart, put, flush}
 use Rattle.versions_machine.proofs.DoesLaw.{put-does}
 use Rattle.versions_state.specs.State.{recordCount, stateBytes, versionsIn, isValid}
 use Rattle.versions_state.proofs.ValidLaw.{count-read, sound, read-back}
-use Rattle.versions.specs.Call.{calledOf, handed, refusedBy, putBytes, flushBytes}
-use Rattle.versions.specs.Ready.{Leaves, Allocated, PutReady}
-use Rattle.versions.proofs.PutLaw.{handed-none, handed-all, put-invalid, put-refused, asked-box, asked-part, put-asked-no}
-use Rattle.versions.proofs.FlushLaw.{flush-empty, flush-asked-no}
+use Rattle.versions_bytes.specs.Call.{calledOf, handed, refusedBy, putBytes, flushBytes}
+use Rattle.versions_steps.specs.Ready.{Leaves, Allocated, PutReady}
+use Rattle.versions_steps.proofs.PutLaw.{handed-none, handed-all, put-invalid, put-refused, asked-box, asked-part, put-asked-no}
+use Rattle.versions_steps.proofs.FlushLaw.{flush-empty, flush-asked-no}
 use Rattle.versions_machine.proofs.CarryLaw.{flush-unaltered}
 
 thirteen : _≡_ {A = ℕ} 13 0 → ⊥

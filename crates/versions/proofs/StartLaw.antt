@@ -14,7 +14,7 @@ use Rattle.versions_machine.specs.Versions.{blockNumber, isLock, start, startQu
 use Rattle.versions_machine.specs.Call.{lastPart}
 use Rattle.versions_state.specs.Layout.{stateSize}
 use Rattle.versions_state.specs.State.{stateBytes, versionsIn, isValid}
-use Rattle.versions.specs.Call.{startedOf, locatedOf, bufferQuestions, startBytes, lookupQuestions, lookup}
+use Rattle.versions_bytes.specs.Call.{startedOf, locatedOf, bufferQuestions, startBytes, lookupQuestions, lookup}
 
 module _ {γ : Geometry} (σ : Proper γ) where
   -- ---- a start

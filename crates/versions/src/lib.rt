@@ -1,16 +1,15 @@
 // The version store: versions of parts in free blocks under one lock, the newest of each known, and a log on the disk. It reads memory and
 // disk, and alters them by controller::command alone. Its calls have no precondition, and their contracts fix the numbers answered and
-// every byte of state, memory and disk by the definitions of specs/.
-mod allocation;
-mod log;
-mod version;
-
+// every byte of state, memory and disk by the definitions of versions_bytes.
 ghost use mathlib.Core.Path.{_≡_};
 ghost use Rattle.lockpage.specs.Geometry.{present};
 ghost use Rattle.memory.specs.Memory.{groups};
 ghost use Rattle.machine.specs.Call.{boxAt};
 ghost use Rattle.versions_machine.specs.Allocation.{firstBlock, wholeBox};
-ghost use Rattle.versions.specs.Call.{locatedOf, calledAt, startedAt, startBytes, lookup, putBytes, flushBytes};
+ghost use Rattle.versions_bytes.specs.Call.{locatedOf, calledAt, startedAt, startBytes, lookup, putBytes, flushBytes};
+use versions_steps::allocation;
+use versions_steps::log;
+use versions_steps::version;
 
 // What a put and a lookup answer: the number, and the block, which is 0 where the number is not.
 pub struct Answered {

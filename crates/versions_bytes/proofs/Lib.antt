@@ -5,4 +5,6 @@ pub mod RecordLaw
 pub mod StateLaw
 pub mod FitLaw
 pub mod ReadFitsLaw
+pub mod CallFitsLaw
+pub mod FollowLaw
 pub mod Theorems

@@ -56,7 +56,7 @@ no-command c =
     let yes = looked (searched told .before .before) in
     let seen = yes .before in
     law.no-command σ _ _ _ _ _ _ (omega (arith, asked seen .if1 .left)) _ (seen .valid .ensures) (yes .if2 .left) _ (told .forecast .ensures)
-    (c .before .if4 .taken) _ _ (c .refused4 .ensures .0) (c .refused4 .ensures .1)
+    (λ z. omega (arith, c .before .if4 .taken)) _ _ (c .refused4 .ensures .0) (c .refused4 .ensures .1)
 
 store-requires : tie.Need-store-requires
 store-requires c κs =

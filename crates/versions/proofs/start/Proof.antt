@@ -4,7 +4,7 @@ use mathlib.Core.Path.{ap, sym, _∙_}
 use mathlib.Mathlib.Data.Bool.Basic.{eq-true-of-not-eq-false', eq-false-of-not-eq-true'}
 use native.Mathlib.Omega.{arith}
 use Rattle.lockpage.proofs.GeometryLaw.{present-proper as σ}
-use Rattle.versions.specs.Call.{startedOf}
+use Rattle.versions_bytes.specs.Call.{startedOf}
 use Rattle.versions.proofs.StartLaw.{wrong-size, no-lock, started}
 use Rattle.versions.proofs.start.Statement.{statement}
 use Rattle.versions.proofs.start.Tie as tie
