@@ -40,23 +40,28 @@ module _ {γ : Geometry} (σ : Proper γ) where
     last = Put 14 (twoAvailable γ ρ s now (versionsIn state .reserve)) ∷ []
 
     -- one of the others has no
-    pub box-refused : (r b : ℕ) → (n ≡ 0 → ⊥) → r ≡ n → Allocated γ ρ state s now r b
+    pub box-refused : (r b : ℕ) → (n ≡ 0 → ⊥) → r ≡ n → b ≡ 0 → Allocated γ ρ state s now r b
     unfolding last
-    box-refused r b d same =
-        record { number-is = same ∙ e ∙ sym (ends (ofBox s now) last (λ z. d (e ∙ z))); block-is = λ z. absurd (d (sym same ∙ z)) }
+    box-refused r b d same none =
+        record {
+          number-is = same ∙ e ∙ sym (ends (ofBox s now) last (λ z. d (e ∙ z)));
+          no-block = λ n. none;
+          block-is = λ z. absurd (d (sym same ∙ z));
+        }
 
     module _ (z : n ≡ 0) (reserve : ℕ) (is-reserve : reserve ≡ versionsIn state .reserve) (two : Bool) (t : two ≡ twoAvailable γ ρ s now reserve) where
       is-two : two ≡ twoAvailable γ ρ s now (versionsIn state .reserve)
       is-two = t ∙ ap (twoAvailable γ ρ s now) is-reserve
 
-      pub too-few : (r b : ℕ) → not two ≡ true → r ≡ 14 → Allocated γ ρ state s now r b
+      pub too-few : (r b : ℕ) → not two ≡ true → r ≡ 14 → b ≡ 0 → Allocated γ ρ state s now r b
       unfolding last
-      too-few r b f same =
+      too-few r b f same none =
           record {
             number-is =
                 same
                 ∙ says-no 14 (Put 14 (twoAvailable γ ρ s now (versionsIn state .reserve))) [] two refl is-two f
                 ∙ sym (passes-on (ofBox s now) last (box-yes s now n e z));
+            no-block = λ n. none;
             block-is = λ zero. absurd (fourteen (sym same ∙ zero));
           }
         where
@@ -71,6 +76,7 @@ module _ {γ : Geometry} (σ : Proper γ) where
             number-is =
                 goes-on (Put 14 (twoAvailable γ ρ s now (versionsIn state .reserve))) [] two is-two f
                 ∙ sym (passes-on (ofBox s now) last (box-yes s now n e z));
+            no-block = λ n. absurd (n refl);
             block-is =
                 λ zero.
                 found

@@ -27,9 +27,10 @@ module _ (γ : Geometry) where
     pub accepted : carriedOut γ s (writing block now lock content ∷ unfreezes (blockNamed replaced) now) .number ≡ 0
 
   module _ (ρ : Range) where
-    -- the number of the first question put to the box that has no, or 0, and then the block that is taken
+    -- the number of the first question put to the box that has no, and block 0; or 0, and the block that is taken
     pub record Allocated (state : List ℕ) (s : Box) (now number block : ℕ) : Type 0 where
       pub number-is : number ≡ firstNo (boxQuestions γ ρ (versionsIn state) s now)
+      pub no-block : (number ≡ 0 → ⊥) → block ≡ 0
       pub block-is : number ≡ 0 → block ≡ nextFor γ ρ s now (versionsIn state)
 
     -- a put's own questions have yes, and block is the one that it takes

@@ -14,7 +14,7 @@ use addressing::BLOCK_SIZE;
 use lockpage::Update;
 
 // Stores the log block that the record of a put fills, last in its put.
-pub fn store_full(
+pub(crate) fn store_full(
     state: &mut [u8],
     memory: &mut [u8],
     disk: &mut [u8],

@@ -20,7 +20,7 @@ size c = facts present _ (start (c .before) .pre) .size
 
 refused : tie.Need-returns
 refused c =
-    box-refused σ _ _ _ _ _ (c .before .before .refusal .ensures) _ _ (c .before .if1 .taken) (c .refused .ensures .0)
+    box-refused σ _ _ _ _ _ (c .before .before .refusal .ensures) _ _ (c .before .if1 .taken) (c .refused .ensures .0) (c .refused .ensures .1)
 
 two-requires : tie.Need-two-requires
 two-requires c κs =
@@ -33,7 +33,7 @@ few c =
     let read = searched .before .before in
     let yes = read .before in
     too-few σ _ _ _ _ _ (yes .before .refusal .ensures) (omega (arith, yes .if1 .left)) _ (read .reserve .ensures) _ (searched .two .ensures .1)
-    _ _ (c .before .if2 .taken) (c .refused2 .ensures .0)
+    _ _ (c .before .if2 .taken) (c .refused2 .ensures .0) (c .refused2 .ensures .1)
 
 found : tie.Need-returns-3
 found c =
