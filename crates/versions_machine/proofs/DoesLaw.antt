@@ -23,7 +23,7 @@ use Rattle.machine.proofs.QuestionLaw.{numberedTo, accepted-yes}
 use Rattle.versions_machine.specs.Versions.{Range, Versions, recordOf, entered, logged}
 use Rattle.versions_machine.specs.Log.{recordsPerBlock, logBlock, isFull, isSound}
 use Rattle.versions_machine.specs.Allocation.{isAvailable, nextFor}
-use Rattle.versions_machine.specs.Plan.{Order, Plan, Carried, planOf, writing, unfreezes, given, carriedOut, logPlan, duePlan, versionOrders}
+use Rattle.versions_machine.specs.Plan.{Order, Plan, Carried, planOf, writing, unfreezing, unfreezes, given, carriedOut, logPlan, duePlan, versionOrders}
 use Rattle.versions_machine.specs.Plan.{putPlan}
 use Rattle.versions_machine.specs.Call.{resultOf, put, putQuestions, flush, flushQuestions, flushPlan, boxQuestions}
 use Rattle.versions_machine.specs.After.{StillValid, fills, between, PutDoes, FlushDoes}
@@ -57,22 +57,23 @@ module _ {γ : Geometry} (σ : Proper γ) (ρ : Range) where
 
   -- ---- a put
 
-  each-append : (Q : Order → Type 0) (xs ys : List Order) → Each Q xs → Each Q ys → Each Q (xs ++ ys)
+  pub each-append : (Q : Order → Type 0) (xs ys : List Order) → Each Q xs → Each Q ys → Each Q (xs ++ ys)
   each-append Q [] ys h k = k
   each-append Q (x ∷ xs) ys h k = (h .0, each-append Q xs ys (h .1) k)
 
-  unfreezes-write : (a now : ℕ) (x : Option ℕ) → Each (λ (o : Order). NotWritten a (o .update) (o .block)) (unfreezes x now)
+  -- what holds of an unfreeze, and of a log block's write, holds of each order that there is
+  pub unfreezes-each : (Q : Order → Type 0) (now : ℕ) (x : Option ℕ) → ((old : ℕ) → x ≡ some old → Q (unfreezing old now)) → Each Q (unfreezes x now)
   unfolding unfreezes
-  unfreezes-write a now none = tt
-  unfreezes-write a now (some b) = (tt, tt)
+  unfreezes-each Q now none f = tt
+  unfreezes-each Q now (some old) f = (f old refl, tt)
 
-  due-write : (a : ℕ) (ν : Versions) (t : Box) (now : ℕ) → (isFull γ ν ≡ true → a ≡ ν .reserve → ⊥)
-      → Each (λ (o : Order). NotWritten a (o .update) (o .block)) (duePlan γ ρ ν t now .orders)
+  pub due-each : (Q : Order → Type 0) (ν : Versions) (t : Box) (now : ℕ)
+      → (isFull γ ν ≡ true → (content : List ℕ) → Q (writing (ν .reserve) now (ν .lock) content)) → Each Q (duePlan γ ρ ν t now .orders)
   unfolding duePlan logPlan
-  due-write a ν t now n = go (isFull γ ν) refl
+  due-each Q ν t now f = go (isFull γ ν) refl
     where
-      go : (x : Bool) → isFull γ ν ≡ x → Each (λ (o : Order). NotWritten a (o .update) (o .block)) (chosen (logPlan γ ρ ν t now) ν x .orders)
-      go true e = (n e, tt)
+      go : (x : Bool) → isFull γ ν ≡ x → Each Q (chosen (logPlan γ ρ ν t now) ν x .orders)
+      go true e = (f e (logBlock γ (ν .records) (nextFor γ ρ t now ν)), tt)
       go false e = tt
 
   put-writes : (ν : Versions) (s : Box) (part now : ℕ) (content : List ℕ) (a : ℕ) → (a ≡ nextFor γ ρ s now ν → ⊥)
@@ -82,8 +83,10 @@ module _ {γ : Geometry} (σ : Proper γ) (ρ : Range) where
   put-writes ν s part now content a n m =
       let block = nextFor γ ρ s now ν in (
         n,
-        each-append (λ (o : Order). NotWritten a (o .update) (o .block)) (unfreezes (ν .newest part) now) _ (unfreezes-write a now (ν .newest part))
-            (due-write a (entered ν part block) (between γ ρ ν s part now content) now (λ e x. m e (x ∙ entered-reserve ν part block))),
+        each-append (λ (o : Order). NotWritten a (o .update) (o .block)) (unfreezes (ν .newest part) now) _
+            (unfreezes-each (λ (o : Order). NotWritten a (o .update) (o .block)) now (ν .newest part) (λ old e. tt))
+            (due-each (λ (o : Order). NotWritten a (o .update) (o .block)) (entered ν part block) (between γ ρ ν s part now content) now
+            (λ full log x. m full (x ∙ entered-reserve ν part block))),
       )
     where
       entered-reserve : (ν : Versions) (part block : ℕ) → entered ν part block .reserve ≡ ν .reserve

@@ -10,6 +10,7 @@ pub mod AcceptLaw
 pub mod FactsLaw
 pub mod OrdersLaw
 pub mod DoesLaw
+pub mod LocksLaw
 pub mod FreshLaw
 pub mod FirstLaw
 pub mod ReplaceLaw

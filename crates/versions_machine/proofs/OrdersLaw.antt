@@ -65,7 +65,7 @@ module _ {γ : Geometry} (σ : Proper γ) where
       )
 
   -- what each accepted order of a list keeps, they all keep
-  carried-keeps : (P : Box → Type 0) (Q : Order → Type 0)
+  pub carried-keeps : (P : Box → Type 0) (Q : Order → Type 0)
       → ((s : Box) (o : Order) → refusal γ s (given γ s o) ≡ 0 → Q o → P s → P (step γ s (given γ s o) .box))
       → (s : Box) (os : List Order) → Each Q os → carriedOut γ s os .number ≡ 0 → P s → P (carriedOut γ s os .box)
   unfolding carriedOut
@@ -129,7 +129,7 @@ module _ {γ : Geometry} (σ : Proper γ) where
       let b : Says now e Frozen = subst (Says now e) g (says now e) in
       omega (arith, a .0)
 
-  order-entry : (s : Box) (o : Order) → refusal γ s (given γ s o) ≡ 0 → (k : ℕ) → k < dataBlocks γ (groups γ (s .memory)) → (k ≡ o .block → ⊥)
+  pub order-entry : (s : Box) (o : Order) → refusal γ s (given γ s o) ≡ 0 → (k : ℕ) → k < dataBlocks γ (groups γ (s .memory)) → (k ≡ o .block → ⊥)
       → currentEntry γ (step γ s (given γ s o) .box) k ≡ currentEntry γ s k
   order-entry s o r k l n =
       entry-other σ (o .update) s (given γ s o) (order-kind σ (o .update)) r (order-brings σ s o r) k (groupOf-below σ (groups γ (s .memory)) k l) n

@@ -10,8 +10,10 @@ use Rattle.versions_machine.specs.Claims.{FlushPassesIfAllYes, PutIsFore
 use Rattle.versions_machine.specs.Claims.{FirstFlushIsAccepted, FullPutIsAccepted}
 use Rattle.versions_machine.specs.After.{AcceptedPutDoes, AcceptedFlushDoes}
 use Rattle.versions_machine.specs.History.{LogIsWhole}
+use Rattle.versions_machine.specs.Locks.{AcceptedPutLocks, AcceptedFlushLocks}
 use Rattle.versions_machine.proofs.HistoryLaw.{log-tells}
 use Rattle.versions_machine.proofs.DoesLaw.{put-does, flush-does}
+use Rattle.versions_machine.proofs.LocksLaw.{put-locks, flush-locks}
 use Rattle.versions_machine.proofs.CarryLaw.{put-unaltered, flush-unaltered}
 use Rattle.versions_machine.proofs.FirstLaw as first
 use Rattle.versions_machine.proofs.ReplaceLaw as replace
@@ -87,6 +89,16 @@ module _ {γ : Geometry} (σ : Proper γ) (ρ : Range) where
   pub accepted-flush-does : AcceptedFlushDoes γ ρ
   unfolding AcceptedFlushDoes
   accepted-flush-does = flush-does σ ρ
+
+  -- ---- specs/Locks.antt
+
+  pub accepted-put-locks : AcceptedPutLocks γ ρ
+  unfolding AcceptedPutLocks
+  accepted-put-locks = put-locks σ ρ
+
+  pub accepted-flush-locks : AcceptedFlushLocks γ ρ
+  unfolding AcceptedFlushLocks
+  accepted-flush-locks = flush-locks σ ρ
 
   -- ---- specs/History.antt
 

@@ -9,3 +9,4 @@ pub mod Run
 pub mod Claims
 pub mod After
 pub mod History
+pub mod Locks
