@@ -1,1 +1,1 @@
-// The laws of a state's bytes, in proofs/, and what they claim, in specs/Claims.antt: no code.
+// The calls on a state's bytes as definitions, and what is claimed of these bytes, in specs/; the laws, in proofs/: no code.
