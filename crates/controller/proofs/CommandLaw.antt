@@ -71,7 +71,8 @@ module _ {γ : Geometry} (σ : Proper γ) where
         box = valid-box (Change u) s c h;
         block = known .range;
         content-size = all .content;
-        may = record { time = all .early; proof-size = known .proof; unexhausted = known .unexhausted; limit = known .within };
+        may = record { time = all .early; proof-size = known .proof; limit = known .within };
+        unexhausted = known .unexhausted;
         answer-size = all .answer;
       }
 

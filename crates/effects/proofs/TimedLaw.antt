@@ -1,21 +1,22 @@
 -- What the questions have seen to still holds once the last time is set. Assumes nothing.
-use mathlib.Core.Path.{_≡_, ap, sym, _∙_}
+use mathlib.Core.Path.{_≡_, ap, sym, subst, _∙_}
 use mathlib.Core.Bool.{true}
 use mathlib.Core.List.{List}
-use Prim.Native.Nat.{ℕ, _≤_}
+use Prim.Native.Nat.{ℕ, _≤_, _<_}
 use native.Mathlib.Omega.{arith}
+use lib.ListN.{length}
 use Rattle.lockpage.specs.Geometry.{Geometry, Proper}
-use Rattle.lockpage.specs.declared.Update.{Update}
+use Rattle.lockpage.specs.Size.{pageSize}
 use Rattle.lockpage.specs.Update.{latestTime}
-use Rattle.addressing.specs.Map.{diskSize, groupOf}
+use Rattle.addressing.specs.Map.{diskSize, dataBlocks, groupOf}
+use Rattle.addressing.proofs.MapLaw.{groupOf-below}
 use Rattle.memory.specs.Memory.{count, groups, withLastTime}
-use Rattle.memory.specs.Ready.{HasCount}
 use Rattle.memory.proofs.FieldLaw.{time-set}
-use Rattle.validity.specs.Valid.{valid}
+use Rattle.validity.specs.Valid.{countLimit, valid}
 use Rattle.validity.proofs.ValidLaw.{facts, valid-time}
 use Rattle.machine.specs.Command.{boxOf}
 use Rattle.machine.specs.Claims.{ValidBox}
-use Rattle.effects.specs.Ready.{MayChange}
+use Rattle.effects.specs.Ready.{HoldReady}
 
 -- γ is any proper geometry
 module _ {γ : Geometry} (σ : Proper γ) where
@@ -29,14 +30,19 @@ module _ {γ : Geometry} (σ : Proper γ) where
         let same : groups γ t ≡ groups γ m = ap (groups γ) et ∙ time-set σ m (facts σ m (s .memory) .size) now (omega arith) .groups in
         record { memory = timed-valid (s .memory); disk = s .disk ∙ ap (diskSize γ) (sym same) }
 
-    pub timed-may : (u : Update) (a : ℕ) (proof : List ℕ) → HasCount γ m (groupOf γ a) → MayChange γ u m a now proof
-        → MayChange γ u t a now proof
-    timed-may u a proof has may =
-        let same : count t (groupOf γ a) ≡ count m (groupOf γ a) =
-        ap (λ (x : List ℕ). count x (groupOf γ a)) et ∙ time-set σ m (has .size) now (omega arith) .count (groupOf γ a) (has .group) in
+    -- with the disk after stores, and the changed page of block a's group
+    pub timed-hold : (disk d page : List ℕ) (a g : ℕ) → ValidBox γ (boxOf m disk) → length d ≡ length disk → a < dataBlocks γ (groups γ m)
+        → g ≡ groupOf γ a → count m (groupOf γ a) < countLimit → length page ≡ pageSize γ → HoldReady γ (boxOf t d) g page
+    timed-hold disk d page a g s ed below eg unexhausted size =
+        let v = facts σ m (s .memory) in
+        let reads = time-set σ m (v .size) now (omega arith) in
+        let box = timed-box disk s in
+        let of-box = groupOf-below σ (groups γ m) a below in
         record {
-          time = early;
-          proof-size = may .proof-size;
-          unexhausted = omega (arith, same, may .unexhausted);
-          limit = may .limit;
+          box = record { memory = box .memory; disk = ed ∙ box .disk };
+          group = omega (arith, ap (groups γ) et ∙ reads .groups);
+          unexhausted =
+              subst (λ (k : ℕ). count t k < countLimit) (sym eg)
+              (omega (arith, ap (λ (x : List ℕ). count x (groupOf γ a)) et ∙ reads .count (groupOf γ a) (omega (arith, v .most))));
+          page-size = size;
         }

@@ -6,11 +6,14 @@ use mathlib.Core.List.{List}
 use Prim.Native.Nat.{ℕ, _≤_, _<_}
 use lib.ListN.{length}
 use Rattle.lockpage.specs.Geometry.{Geometry}
+use Rattle.lockpage.specs.Size.{pageSize}
 use Rattle.lockpage.specs.declared.Update.{Update}
 use Rattle.lockpage.specs.Page.{entryAt}
 use Rattle.lockpage.specs.Update.{latestTime, updated, withinLimit}
 use Rattle.addressing.specs.Map.{dataBlocks, groupOf, placeOf}
+use Rattle.disk.specs.Disk.{HasGroup}
 use Rattle.memory.specs.Memory.{count, groups}
+use Rattle.memory.specs.Ready.{HasPage}
 use Rattle.validity.specs.Valid.{countLimit, valid}
 use Rattle.machine.specs.declared.Kind.the-variants.{Change}
 use Rattle.machine.specs.Command.{Box, Command, proofSize, broughtPage, answerSize}
@@ -31,17 +34,24 @@ module _ (γ : Geometry) where
     pub time : now ≤ latestTime
     pub answer-size : length answer ≡ answerSize γ
 
-  -- what an update of block a brings: questions 4, 6, 8 and 10
-  pub record MayChange (u : Update) (m : List ℕ) (a now : ℕ) (proof : List ℕ) : Type 0 where
+  -- what an update of block a brings: questions 4, 6 and 10
+  pub record MayChange (u : Update) (a now : ℕ) (proof : List ℕ) : Type 0 where
     pub time : now ≤ latestTime
     pub proof-size : length proof ≡ proofSize γ
-    pub unexhausted : count m (groupOf γ a) < countLimit
     pub limit : withinLimit (updated u now (entryAt (broughtPage γ proof) (placeOf γ a))) ≡ true
+
+  -- group g's changed page may be held or put on the disk: question 8
+  pub record HoldReady (s : Box) (g : ℕ) (page : List ℕ) : Type 0 where
+    pub box : ValidBox γ s
+    pub group : g < groups γ (s .memory)
+    pub unexhausted : count (s .memory) g < countLimit
+    pub page-size : length page ≡ pageSize γ
 
   -- kinds 4, 5 and 6
   pub record ChangeReady (u : Update) (s : Box) (c : Command) : Type 0 where
     pub box : ValidBox γ s
     pub block : c .block < dataBlocks γ (groups γ (s .memory))
     pub content-size : length (c .content) ≡ contentLength γ (Change u)
-    pub may : MayChange u (s .memory) (c .block) (c .now) (c .proof)
+    pub may : MayChange u (c .block) (c .now) (c .proof)
+    pub unexhausted : count (s .memory) (groupOf γ (c .block)) < countLimit
     pub answer-size : length (c .answer) ≡ answerSize γ

@@ -2,13 +2,13 @@
 ghost use mathlib.Core.Path.{_≡_};
 ghost use lib.ListN.{length};
 ghost use Rattle.lockpage.specs.Geometry.{present};
+ghost use Rattle.lockpage.specs.Size.{pageSize};
 ghost use Rattle.addressing.specs.Map.{groupOf};
 ghost use Rattle.disk.specs.Disk.{HasGroup};
-ghost use Rattle.memory.specs.Ready.{HasCount};
 ghost use Rattle.machine.specs.declared.Kind.the-variants.{Change};
 ghost use Rattle.machine.specs.Command.{broughtPage};
 ghost use Rattle.machine.specs.Question.{contentLength};
-ghost use Rattle.machine.specs.Effect.{stored, putContent, updatedPage, changedMemory};
+ghost use Rattle.machine.specs.Effect.{stored, putContent, updatedPage};
 ghost use Rattle.machine.specs.Effect as E;
 ghost use Rattle.machine.specs.Step.{accepted};
 ghost use Rattle.machine.specs.Call.{boxAt, commandAt, outcomeAt};
@@ -29,19 +29,15 @@ fn put_content(disk: &mut [u8], u: Update, block: u32, content: &[u8])
     }
 }
 
-// The brought page with the block's entry updated becomes the held one, and its group's count rises.
-fn hold_changed(memory: &mut [u8], u: Update, block: u32, time: u32, proof: &[u8])
-    requires { ⌜ HasCount present (now memory) (groupOf present block) × MayChange present u (now memory) block time (now proof) ⌝ }
-    ensures { λ _. ⌜ now (memory .exit) ≡ changedMemory present (now (memory .entry)) (groupOf present block)
-        (updatedPage present u (broughtPage present (now (proof .entry))) block time) ⌝ }
+// Stores the brought page with the block's entry updated.
+fn store_changed(page: &mut [u8], u: Update, block: u32, time: u32, proof: &[u8])
+    requires { ⌜ MayChange present u block time (now proof) × (length (now page) ≡ pageSize present) ⌝ }
+    ensures { λ _. ⌜ now (page .exit) ≡ updatedPage present u (broughtPage present (now (proof .entry))) block time ⌝ }
 {
-    let group = addressing::group_of(block);
-    let place = addressing::place_of(block);
     let e = arguments::brought_entry(proof, block);
-    let count = memory::count(memory, group);
-    memory::set_count(memory, group, count + 1);
-    held_page::hold(memory, group, &proof[0..PAGE_SIZE]);
-    held_page::store_entry(memory, place, lockpage::updates::updated(u, time, e));
+    octets::copy(proof, 0, page, 0, PAGE_SIZE);
+    let place = addressing::place_of(block);
+    lockpage::entries::store_entry(page, place, lockpage::updates::updated(u, time, e));
 }
 
 // Kinds 4, 5 and 6. Of the command's own kind and value the effect looks only at u.
@@ -64,7 +60,7 @@ pub fn change(
     memory::set_last_time(memory, time);
     held::evict(memory, disk, group);
     put_content(disk, u, block, content);
-    hold_changed(memory, u, block, time, proof);
-    held_page::copy_page(memory, &mut answer[0..PAGE_SIZE]);
+    store_changed(&mut answer[0..PAGE_SIZE], u, block, time, proof);
+    held::hold_or_put(memory, disk, group, &answer[0..PAGE_SIZE]);
     tags::store_tag(memory, group, answer);
 }

@@ -1,13 +1,13 @@
 // The held page in the controller memory. The contracts cite the definitions of memory.
 ghost use mathlib.Core.Path.{_≡_};
-ghost use Prim.Native.Nat.{_<_};
+ghost use Prim.Native.Nat.{_≤_, _<_};
 ghost use lib.ListN.{length};
 ghost use Rattle.octets.specs.Part.{repeated, equal};
 ghost use Rattle.lockpage.specs.Geometry.{present};
 ghost use Rattle.lockpage.specs.Size.{pageSize};
-ghost use Rattle.lockpage.specs.Page.{entryAt, withEntry};
+ghost use Rattle.lockpage.specs.Page.{entryAt};
 ghost use Rattle.memory.specs.Layout.{memorySize};
-ghost use Rattle.memory.specs.Memory.{heldPage, withHeldPage, holding, holdingNone};
+ghost use Rattle.memory.specs.Memory.{mostUpdates, heldPage, holding, holdingNone};
 ghost use Rattle.memory.specs.Ready.{HasPage};
 use lockpage::Entry;
 use memory::layout;
@@ -29,15 +29,6 @@ pub fn load_entry(memory: &[u8], i: usize) -> Entry
     lockpage::entries::load_entry(&memory[layout::PAGE_START..end], i)
 }
 
-// Stores entry i of the held page.
-pub fn store_entry(memory: &mut [u8], i: usize, e: Entry)
-    requires { ⌜ (length (now memory) ≡ memorySize present) × (i < present .entries) ⌝ }
-    ensures { λ _. ⌜ now (memory .exit) ≡ withHeldPage present (now (memory .entry)) (withEntry (heldPage present (now (memory .entry))) i e) ⌝ }
-{
-    let end = layout::PAGE_START + lockpage::PAGE_SIZE;
-    lockpage::entries::store_entry(&mut memory[layout::PAGE_START..end], i, e);
-}
-
 // Whether the held page is 512 zero bytes.
 pub fn is_zero(memory: &[u8]) -> bool
     requires { ⌜ length (now memory) ≡ memorySize present ⌝ }
@@ -48,12 +39,13 @@ pub fn is_zero(memory: &[u8]) -> bool
     octets::equal(&memory[layout::PAGE_START..end], &zeros)
 }
 
-// Holds a group's page.
-pub fn hold(memory: &mut [u8], group: u32, page: &[u8])
-    requires { ⌜ HasPage present (now memory) group (now page) ⌝ }
-    ensures { λ _. ⌜ now (memory .exit) ≡ holding present (now (memory .entry)) group (now (page .entry)) ⌝ }
+// Holds a group's page, which has had that many updates.
+pub fn hold(memory: &mut [u8], group: u32, updates: u32, page: &[u8])
+    requires { ⌜ HasPage present (now memory) group (now page) × (updates ≤ mostUpdates) ⌝ }
+    ensures { λ _. ⌜ now (memory .exit) ≡ holding present (now (memory .entry)) group updates (now (page .entry)) ⌝ }
 {
     octets::store_u8(memory, layout::HELD_START, group as u8);
+    octets::store_u8(memory, layout::UPDATE_COUNT_START, updates as u8);
     octets::copy(page, 0, memory, layout::PAGE_START, lockpage::PAGE_SIZE);
 }
 
@@ -72,6 +64,7 @@ pub fn hold_none(memory: &mut [u8])
     ensures { λ _. ⌜ now (memory .exit) ≡ holdingNone present (now (memory .entry)) ⌝ }
 {
     octets::store_u8(memory, layout::HELD_START, layout::NONE);
+    octets::store_u8(memory, layout::UPDATE_COUNT_START, 0);
     let end = layout::PAGE_START + lockpage::PAGE_SIZE;
     zero_page(&mut memory[layout::PAGE_START..end]);
 }

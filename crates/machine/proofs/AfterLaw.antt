@@ -1,6 +1,5 @@
 -- What an accepted command does to the box, kind by kind, as specs/After.antt claims. Assumes nothing.
 use mathlib.Core.Path.{_≡_, refl, ap, sym, subst, _∙_}
-use mathlib.Core.Logic.{_⊎_}
 use mathlib.Core.List.{List}
 use mathlib.Core.Bool.{Bool, true, false}
 use Prim.Native.Nat.{ℕ, _+_, _<_}
@@ -9,7 +8,7 @@ use Rattle.lockpage.specs.Geometry.{Geometry, Proper}
 use Rattle.lockpage.specs.declared.Update.{Update}
 use Rattle.addressing.specs.Map.{groupOf, physical, pageBlock}
 use Rattle.disk.specs.Disk.{block}
-use Rattle.memory.specs.Memory.{salt, count, lastTime, groups, held, none}
+use Rattle.memory.specs.Memory.{salt, count, lastTime, groups, held, none, updateCount}
 use Rattle.memory.proofs.FieldLaw.{page-dropped}
 use Rattle.validity.proofs.ValidLaw.{Valid}
 use Rattle.machine.specs.declared.Kind.{Kind}
@@ -18,9 +17,9 @@ use Rattle.machine.specs.Command.{Box, Command, Outcome, kindOf}
 use Rattle.machine.specs.Tag.{currentPage}
 use Rattle.machine.specs.Question.{refusal}
 use Rattle.machine.specs.Effect.{stored, effect, read, showEntry, showPage, putHeld, changedPage, change, sync, restartedMemory, restart, newSalt}
-use Rattle.machine.specs.Effect.{identify}
+use Rattle.machine.specs.Effect.{identify, pageLeaves}
 use Rattle.machine.specs.Step.{step, timed, done}
-use Rattle.machine.specs.After.{saltAfter, countAfter, heldAfter, pageAfter, contentAfter, After}
+use Rattle.machine.specs.After.{saltAfter, countAfter, heldAfter, pageAfter, contentAfter, After, updatesAfter}
 use Rattle.machine.proofs.CaseLaw.{same-or-not}
 use Rattle.machine.proofs.QuestionLaw.{all-yes}
 use Rattle.machine.proofs.StepLaw.{step-accepted}
@@ -28,19 +27,20 @@ use Rattle.machine.proofs.TagLaw.{current-other}
 use Rattle.machine.proofs.PassedLaw.{new-salt-other, Passed, Changes, passed, in-time, changes, passed-timed, changed-group, accepted-changes}
 use Rattle.machine.proofs.PassedLaw.{timed-reads}
 use Rattle.machine.proofs.EffectLaw.{left, count-changed, untouched, count-unchanged, restarted-none, restarted-held-reads, restarted-salt}
-use Rattle.machine.proofs.EffectLaw.{restarted-time, restarted-groups, restarted-drops, salted-reads}
+use Rattle.machine.proofs.EffectLaw.{restarted-time, restarted-groups, restarted-drops, salted-reads, restarted-updates}
 use Rattle.machine.proofs.ChangeLaw.{change-on-disk, not-none, put-current, put-elsewhere, change-reads, change-page, change-content}
-use Rattle.machine.proofs.TimedLaw.{in-memory, salt-timed, counts-timed, held-timed, page-timed}
+use Rattle.machine.proofs.TimedLaw.{in-memory, salt-timed, counts-timed, held-timed, page-timed, leaves-timed, updates-timed}
 
 -- γ is the box's geometry
 module _ (γ : Geometry) where
-  -- the last time and the number of groups stay (the last time is set before), the salt, the counts and the held group are as claimed
+  -- the last time and the number of groups stay (the last time is set before), the salt, the counts the held group and its updates are as claimed
   record Fields (k : Kind) (s : Box) (c : Command) (m : List ℕ) : Type 0 where
     time : lastTime γ m ≡ lastTime γ (s .memory)
     same-groups : groups γ m ≡ groups γ (s .memory)
     new-salt : salt m ≡ saltAfter k (s .memory) c
     counts : (g : ℕ) → g < groups γ (s .memory) → count m g ≡ countAfter γ k (s .memory) c g
     held-group : held γ m ≡ heldAfter γ k (s .memory) c
+    updates : updateCount γ m ≡ updatesAfter γ k (s .memory) c
 
 -- γ is any proper geometry
 module _ {γ : Geometry} (σ : Proper γ) where
@@ -61,14 +61,15 @@ module _ {γ : Geometry} (σ : Proper γ) where
             ∙ sym (count-unchanged (count m) (held γ m) (count m (held γ m) + 1) g (λ e. not-none σ m v g (held γ m) n h (sym e))))
             (λ n. restarted-held-reads σ m v n .count g (in-memory σ m v g h));
         held-group = restarted-drops σ m v;
+        updates = restarted-updates σ m v;
       }
 
   effect-fields : (k : Kind) (s : Box) (c : Command) → Passed γ k s c → ((u : Update) → k ≡ Change u → Changes γ u s c)
       → Fields γ k s c (effect γ k s c .memory)
   unfolding effect read showEntry showPage change sync restart newSalt identify
-  effect-fields Read s c q x = record { time = refl; same-groups = refl; new-salt = refl; counts = λ g h. refl; held-group = refl }
-  effect-fields Entry s c q x = record { time = refl; same-groups = refl; new-salt = refl; counts = λ g h. refl; held-group = refl }
-  effect-fields Page s c q x = record { time = refl; same-groups = refl; new-salt = refl; counts = λ g h. refl; held-group = refl }
+  effect-fields Read s c q x = record { time = refl; same-groups = refl; new-salt = refl; counts = λ g h. refl; held-group = refl; updates = refl }
+  effect-fields Entry s c q x = record { time = refl; same-groups = refl; new-salt = refl; counts = λ g h. refl; held-group = refl; updates = refl }
+  effect-fields Page s c q x = record { time = refl; same-groups = refl; new-salt = refl; counts = λ g h. refl; held-group = refl; updates = refl }
   effect-fields (Change u) s c q x =
       let r = change-reads σ u s c q (x u refl) in
       record {
@@ -77,6 +78,7 @@ module _ {γ : Geometry} (σ : Proper γ) where
         new-salt = r .salt;
         counts = λ g h. r .count g (in-memory σ (s .memory) (q .memory) g h);
         held-group = r .held;
+        updates = r .updates;
       }
   effect-fields Sync s c q x =
       let r = page-dropped σ (s .memory) (q .memory .size) in
@@ -86,6 +88,7 @@ module _ {γ : Geometry} (σ : Proper γ) where
         new-salt = r .salt;
         counts = λ g h. r .count g (in-memory σ (s .memory) (q .memory) g h);
         held-group = r .held;
+        updates = r .updates;
       }
   effect-fields Restart s c q x = restart-fields s c (q .memory)
   effect-fields NewSalt s c q x =
@@ -96,9 +99,10 @@ module _ {γ : Geometry} (σ : Proper γ) where
         new-salt = r .salt;
         counts = λ g h. r .count g (in-memory σ (s .memory) (q .memory) g h);
         held-group = r .held;
+        updates = r .updates;
       }
-  effect-fields Identify s c q x = record { time = refl; same-groups = refl; new-salt = refl; counts = λ g h. refl; held-group = refl }
-  effect-fields Unknown s c q x = record { time = refl; same-groups = refl; new-salt = refl; counts = λ g h. refl; held-group = refl }
+  effect-fields Identify s c q x = record { time = refl; same-groups = refl; new-salt = refl; counts = λ g h. refl; held-group = refl; updates = refl }
+  effect-fields Unknown s c q x = record { time = refl; same-groups = refl; new-salt = refl; counts = λ g h. refl; held-group = refl; updates = refl }
 
   -- with none held after, the page is the one on the disk
   none-after : (s t : Box) (g : ℕ) → Valid γ (s .memory) → g < groups γ (s .memory) → held γ (t .memory) ≡ none
@@ -161,6 +165,7 @@ module _ {γ : Geometry} (σ : Proper γ) where
         counts =
             λ g h. ap (λ (o : Outcome). count (o .box .memory) g) same ∙ fields .counts g (of-box g h) ∙ counts-timed σ k s c q own g h;
         held-group = ap (λ (o : Outcome). held γ (o .box .memory)) same ∙ fields .held-group ∙ held-timed σ k s c q;
+        updates = ap (λ (o : Outcome). updateCount γ (o .box .memory)) same ∙ fields .updates ∙ updates-timed σ k s c q;
         page =
             λ g h. ap (λ (o : Outcome). currentPage γ (o .box) g) same ∙ effect-page k t c qt x g (of-box g h) ∙ page-timed σ k s c q g;
         content = λ a. ap (λ (o : Outcome). block γ (o .box .disk) (physical γ a)) same ∙ effect-content k t c qt x a;
@@ -186,18 +191,27 @@ module _ {γ : Geometry} (σ : Proper γ) where
         ∙ ap (λ (k : Kind). countAfter γ k (s .memory) c g) e
         ∙ count-changed (count (s .memory)) g (count (s .memory) g + 1)
 
-    pub own-held : held γ (step γ s c .box .memory) ≡ groupOf γ (c .block)
-    own-held = accepted-after s c r .held-group ∙ ap (λ (k : Kind). heldAfter γ k (s .memory) c) e
+    -- it is held, or has left
+    pub own-held : pageLeaves γ (s .memory) (groupOf γ (c .block)) ≡ false → held γ (step γ s c .box .memory) ≡ groupOf γ (c .block)
+    own-held stays =
+        accepted-after s c r .held-group
+        ∙ ap (λ (k : Kind). heldAfter γ k (s .memory) c) e
+        ∙ ap (λ (b : Bool). elim b [ true ↦ none | false ↦ groupOf γ (c .block) ]) stays
 
-    pub own-on-disk : (held γ (s .memory) ≡ none) ⊎ (held γ (s .memory) ≡ groupOf γ (c .block))
+    pub own-left : pageLeaves γ (s .memory) (groupOf γ (c .block)) ≡ true → held γ (step γ s c .box .memory) ≡ none
+    own-left leaves =
+        accepted-after s c r .held-group
+        ∙ ap (λ (k : Kind). heldAfter γ k (s .memory) c) e
+        ∙ ap (λ (b : Bool). elim b [ true ↦ none | false ↦ groupOf γ (c .block) ]) leaves
+
+    pub own-on-disk : pageLeaves γ (s .memory) (groupOf γ (c .block)) ≡ false
         → block γ (step γ s c .box .disk) (pageBlock γ (groupOf γ (c .block))) ≡ block γ (s .disk) (pageBlock γ (groupOf γ (c .block)))
     unfolding done effect timed
-    own-on-disk h =
-        let t = timed γ s (c .now) in
+    own-on-disk stays =
         let q = passed σ (Change u) s c (all-yes σ (Change u) s c e r) in
         ap (λ (o : Outcome). block γ (o .box .disk) (pageBlock γ (groupOf γ (c .block)))) (step-accepted σ (Change u) s c e r)
-        ∙ change-on-disk σ u t c (passed-timed σ (Change u) s c q) (accepted-changes σ (Change u) s c e r u refl)
-        (subst (λ (i : ℕ). (i ≡ none) ⊎ (i ≡ groupOf γ (c .block))) (sym (timed-reads σ s (c .now) (in-time σ (Change u) s c q) .held)) h)
+        ∙ change-on-disk σ u (timed γ s (c .now)) c (passed-timed σ (Change u) s c q) (accepted-changes σ (Change u) s c e r u refl)
+        (leaves-timed σ (Change u) s c q (groupOf γ (c .block)) ∙ stays)
 
   pub lost-count : (s : Box) (c : Command) → kindOf c ≡ Restart → refusal γ s c ≡ 0 → held γ (s .memory) < groups γ (s .memory)
       → count (step γ s c .box .memory) (held γ (s .memory)) ≡ count (s .memory) (held γ (s .memory)) + 1

@@ -2,11 +2,11 @@
 -- nothing.
 use mathlib.Core.Path.{_≡_, refl, ap, sym, _∙_}
 use mathlib.Core.List.{List, [], _∷_, _++_, append-assoc}
-use Prim.Native.Nat.{ℕ, _+_, _-_, _≤_}
+use Prim.Native.Nat.{ℕ, _+_, _-_, _≤_, _<_}
 use native.Mathlib.Omega.{arith}
 use borrow.Author.Tests.{ltb-true}
 use lib.ListN.{length, length-append}
-use Rattle.octets.specs.Part.{part, repeated}
+use Rattle.octets.specs.Part.{part, repeated, equal}
 use Rattle.octets.proofs.PartLaw.{part-left, part-right, part-first, part-second}
 use Rattle.octets.proofs.EqualLaw.{equal-yes}
 use Rattle.lockpage.specs.Geometry.{Geometry, Proper}
@@ -21,21 +21,26 @@ use Rattle.lockpage.proofs.StateLaw.{timeLeftBytes-length}
 use Rattle.lockpage.proofs.PageLaw.{entryAt-front}
 use Rattle.addressing.specs.Map.{groupOf, placeOf, physical}
 use Rattle.disk.specs.Disk.{block}
-use Rattle.memory.specs.Memory.{groups}
-use Rattle.machine.specs.declared.Kind.the-variants.{Read, Entry, Page, Change}
+use Rattle.memory.specs.Memory.{salt, count, groups, held, none}
+use Rattle.machine.specs.declared.Kind.{Kind}
+use Rattle.machine.specs.declared.Kind.the-variants.{Read, Entry, Page, Change, Restart}
 use Rattle.machine.specs.Command.{Box, Command, Outcome, kindOf, broughtPage, broughtTag, answerSize}
 use Rattle.machine.specs.Tag.{tag, tagged, currentPage, currentEntry}
 use Rattle.machine.specs.Question.{refusal}
 use Rattle.machine.specs.Effect.{entryAnswer, stored, effect, read, showEntry, showPage, changedPage, changedMemory, change, statePlace}
 use Rattle.machine.specs.Step.{step, timed, padded, done}
-use Rattle.machine.specs.After.{Serves, AnswerServes}
+use Rattle.machine.specs.After.{saltAfter, countAfter, pageAfter, Serves, AnswerServes}
+use Rattle.machine.specs.Leaving.{LeftPageServes}
+use Rattle.machine.proofs.KindLaw.{restart-kind}
 use Rattle.machine.proofs.QuestionLaw.{all-yes}
-use Rattle.machine.proofs.StepLaw.{step-accepted, padded-full}
-use Rattle.machine.proofs.TagLaw.{tagged-length, tagged-page, tagged-tag, current-length}
-use Rattle.machine.proofs.PassedLaw.{passed, in-time, passed-timed, accepted-changes}
-use Rattle.machine.proofs.EffectLaw.{changed-length}
+use Rattle.machine.proofs.StepLaw.{step-accepted, padded-full, accepts}
+use Rattle.machine.proofs.TagLaw.{tag-same, tagged-length, tagged-page, tagged-tag, current-other, current-length}
+use Rattle.machine.proofs.PassedLaw.{passed, in-time, passed-timed, changes, changed-group, accepted-changes}
+use Rattle.machine.proofs.EffectLaw.{count-unchanged, changed-length}
+use Rattle.machine.proofs.LeavingLaw.{next-same, many-leaves}
+use Rattle.machine.proofs.ChangeLaw.{not-none}
 use Rattle.machine.proofs.TimedLaw.{current-timed}
-use Rattle.machine.proofs.AfterLaw.{own-page}
+use Rattle.machine.proofs.AfterLaw.{accepted-after, own-page, own-left}
 
 -- γ is any proper geometry
 module _ {γ : Geometry} (σ : Proper γ) where
@@ -156,4 +161,48 @@ module _ {γ : Geometry} (σ : Proper γ) where
             let size = changed-length σ u c (accepted-changes σ (Change u) s c e r u refl .proof) in
             serves t g (step γ s c .answer) (ap (λ (p : List ℕ). length p) own ∙ size)
             (changed-answer u s c e r ∙ ap (tagged γ (t .memory) g) (sym own));
+      }
+
+  -- ---- a page that left by itself
+
+  -- what serves, serves in a box with the same salt, count and page
+  serves-same : (s t : Box) (g : ℕ) (proof : List ℕ) → salt (t .memory) ≡ salt (s .memory) → count (t .memory) g ≡ count (s .memory) g
+      → currentPage γ t g ≡ currentPage γ s g → Serves γ s g proof → Serves γ t g proof
+  serves-same s t g proof es ec ep x =
+      record {
+        page = x .page ∙ sym ep;
+        matches =
+            λ u.
+            ap (λ (l : List ℕ). equal (broughtTag γ proof) l) (tag-same σ (s .memory) (t .memory) g (broughtPage γ proof) es ec) ∙ x .matches u;
+      }
+
+  -- a restart with none held
+  restart-serves : (s : Box) (r : Command) (g : ℕ) (proof : List ℕ) → kindOf r ≡ Restart → refusal γ s r ≡ 0 → held γ (s .memory) ≡ none
+      → g < groups γ (s .memory) → Serves γ s g proof → Serves γ (step γ s r .box) g proof
+  restart-serves s r g proof e a n h x =
+      let m = s .memory in
+      let done = accepted-after σ s r a in
+      let v = passed σ Restart s r (all-yes σ Restart s r e a) .memory in
+      let other : held γ m ≡ g → ⊥ = not-none σ m v g (held γ m) n h in
+      serves-same s (step γ s r .box) g proof (done .new-salt ∙ ap (λ (k : Kind). saltAfter k m r) e)
+      (done .counts g h
+      ∙ ap (λ (k : Kind). countAfter γ k m r g) e
+      ∙ count-unchanged (count m) (held γ m) (count m (held γ m) + 1) g (λ i. other (sym i)))
+      (done .page g h ∙ ap (λ (k : Kind). pageAfter γ k s r g) e ∙ sym (current-other σ s g other)) x
+
+  pub left-serves : LeftPageServes γ
+  unfolding LeftPageServes
+  left-serves s c u r e a is-held full =
+      let g = groupOf γ (c .block) in
+      let ra = accepts σ s c a in
+      let t = step γ s c .box in
+      let left = own-left σ u s c e ra (many-leaves σ (s .memory) g (omega (arith, next-same σ (s .memory) g is-held))) in
+      let serves-now = answer-serves s c ra .changed-page u e in
+      let here : g < groups γ (t .memory) =
+      omega (arith, accepted-after σ s c ra .same-groups, changed-group σ u s c (changes σ u s c (all-yes σ (Change u) s c e ra))) in
+      record {
+        none-held = left;
+        serves = serves-now;
+        serves-restarted =
+            λ k b. restart-serves t r g (step γ s c .answer) (restart-kind (r .kind) (r .value) k) (accepts σ t r b) left here serves-now;
       }

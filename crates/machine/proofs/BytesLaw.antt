@@ -30,16 +30,18 @@ use Rattle.machine.specs.declared.Kind.the-variants.{Read, Entry, Page, 
 use Rattle.machine.specs.Command.{Box, Command, Outcome, kindOf, proofSize, broughtPage, answerSize}
 use Rattle.machine.specs.Tag.{currentPage}
 use Rattle.machine.specs.Question.{refusal}
-use Rattle.machine.specs.Effect.{Store, Effect, stored, effect, read, showEntry, entryAnswer, showPage, putHeld, evict, putContent, updatedPage}
-use Rattle.machine.specs.Effect.{changedPage, changedMemory, change, sync, restartedMemory, restart, salted, newSalt, identifySize, identify}
+use Rattle.machine.specs.Effect.{Store, Effect, stored, effect, read, showEntry, entryAnswer, showPage, putHeld, putContent, updatedPage, changedPage}
+use Rattle.machine.specs.Effect.{changedMemory, change, sync, restartedMemory, restart, salted, newSalt, identifySize, identify, nextUpdateCount}
+use Rattle.machine.specs.Effect.{pageLeaves}
 use Rattle.machine.specs.Step.{step, timed, done}
 use Rattle.machine.specs.Claims.{ByteBox, ByteCommand, Stored}
-use Rattle.machine.proofs.CaseLaw.{same-or-not}
+use Rattle.machine.proofs.CaseLaw.{same-or-not, true-or-false}
 use Rattle.machine.proofs.QuestionLaw.{all-yes}
 use Rattle.machine.proofs.StepLaw.{step-accepted, padded-length, padded-are}
 use Rattle.machine.proofs.TagLaw.{tagged-length, tagged-are, brought-length, brought-are, current-length, current-are}
 use Rattle.machine.proofs.PassedLaw.{Passed, Changes, passed, passed-timed, accepted-changes}
-use Rattle.machine.proofs.EffectLaw.{EachStore, each-append, each-keeps, each-put, each-evicted, changed-length, restarted-none, restarted-held}
+use Rattle.machine.proofs.EffectLaw.{EachStore, each-keeps, each-put, changed-length, restarted-none, restarted-held}
+use Rattle.machine.proofs.LeavingLaw.{changed-leaving, changed-staying, each-change}
 
 entry-are : (now : ℕ) (e : PageEntry) → AreBytes (entryAnswer now e)
 unfolding entryAnswer
@@ -87,9 +89,17 @@ module _ {γ : Geometry} (σ : Proper γ) where
       subst (λ (l : List ℕ). AreBytes l) (sym (restarted-held σ m n))
       (withCount-bytes σ (holdingNone γ m) (holdingNone-bytes σ m b) (held γ m) (count m (held γ m) + 1)))
 
+  changed-memory-are : (m : List ℕ) → AreBytes m → (g : ℕ) (p : List ℕ) → AreBytes p → AreBytes (changedMemory γ m g p)
+  changed-memory-are m b g p page =
+      let n = withCount m g (count m g + 1) in
+      let counted = withCount-bytes σ m b g (count m g + 1) in
+      true-or-false (pageLeaves γ m g)
+      (λ e. subst (λ (l : List ℕ). AreBytes l) (sym (changed-leaving σ m g p e)) (holdingNone-bytes σ n counted))
+      (λ e. subst (λ (l : List ℕ). AreBytes l) (sym (changed-staying σ m g p e)) (holding-bytes σ n counted g (nextUpdateCount γ m g) p page))
+
   effect-bytes : (k : Kind) (s : Box) (c : Command) → ((u : Update) → k ≡ Change u → Changes γ u s c) → ByteBox s → ByteCommand c
       → ByteEffect (effect γ k s c)
-  unfolding effect read showEntry showPage change changedMemory sync restart salted newSalt identify
+  unfolding effect read showEntry showPage change sync restart salted newSalt identify
   effect-bytes Read s c x b d = record { stores = tt; memory = b .memory; named = block-are σ (s .disk) (physical γ (c .block)) (b .disk) }
   effect-bytes Entry s c x b d =
       record { stores = tt; memory = b .memory; named = entry-are (c .now) (entryAt (currentPage γ s (groupOf γ (c .block))) (placeOf γ (c .block))) }
@@ -104,10 +114,8 @@ module _ {γ : Geometry} (σ : Proper γ) where
       let g = groupOf γ (c .block) in
       let page = changed-are u c (x u refl .proof) (d .proof) in
       record {
-        stores =
-            each-append ByteStore (evict γ m g) (putContent γ u (c .block) (c .content)) (each-evicted σ ByteStore m g (put-bytes m (b .memory)))
-            (content-bytes u (c .block) (c .content) (d .content));
-        memory = holding-bytes σ (withCount m g (count m g + 1)) (withCount-bytes σ m (b .memory) g (count m g + 1)) g (changedPage γ u c) page;
+        stores = each-change σ ByteStore u s c (put-bytes m (b .memory)) (content-bytes u (c .block) (c .content) (d .content)) page;
+        memory = changed-memory-are m (b .memory) g (changedPage γ u c) page;
         named = tagged-are σ (changedMemory γ m g (changedPage γ u c)) g (changedPage γ u c) page;
       }
   effect-bytes Sync s c x b d =

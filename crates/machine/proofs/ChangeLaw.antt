@@ -1,16 +1,18 @@
 -- What the held page's and the data's stores, and so an update, do to the pages and the data blocks. Assumes nothing.
 use mathlib.Core.Path.{_≡_, ap, sym, subst, _∙_}
-use mathlib.Core.Logic.{_⊎_, ⊎-elim}
-use mathlib.Core.List.{List, []}
+use mathlib.Core.Bool.{Bool, true, false, false≢true}
+use mathlib.Core.List.{List, _++_}
 use Prim.Native.Nat.{ℕ, _+_, _<_}
 use native.Mathlib.Omega.{arith}
 use borrow.Author.Tests.{eq-eqb, ne-eqb}
 use lib.ListN.{length}
+use Rattle.octets.specs.Part.{repeated}
 use Rattle.lockpage.specs.Geometry.{Geometry, Proper}
+use Rattle.lockpage.specs.Size.{pageSize}
 use Rattle.lockpage.specs.declared.Update.{Update}
 use Rattle.lockpage.specs.declared.Update.the-variants.{Write, Unfreeze, Increment}
 use Rattle.addressing.specs.Map.{diskSize, groupOf, physical, pageBlock}
-use Rattle.addressing.proofs.MapLaw.{physical-same, physical-page, pageBlock-same}
+use Rattle.addressing.proofs.MapLaw.{physical-same, physical-page, pageBlock-same, pageBlock-below}
 use Rattle.disk.specs.Disk.{block, withBlock}
 use Rattle.disk.proofs.DiskLaw.{block-same, block-other, block-within}
 use Rattle.memory.specs.Memory.{salt, count, lastTime, groups, held, none, heldPage}
@@ -19,14 +21,14 @@ use Rattle.validity.proofs.ValidLaw.{Valid}
 use Rattle.machine.specs.declared.Kind.the-variants.{Change}
 use Rattle.machine.specs.Command.{Box, Command}
 use Rattle.machine.specs.Tag.{currentPage}
-use Rattle.machine.specs.Effect.{Store, stored, putHeld, evict, putContent, changedPage, changedMemory, change}
-use Rattle.machine.specs.After.{pageAfter, contentAfter}
-use Rattle.machine.proofs.CaseLaw.{same-or-not}
+use Rattle.machine.specs.Effect.{Store, store, stored, putHeld, evict, putContent, pageLeaves, putLeaving, changedPage, changedMemory, change}
+use Rattle.machine.specs.After.{heldAfter, updatesAfter, pageAfter, contentAfter}
+use Rattle.machine.proofs.CaseLaw.{same-or-not, true-or-false}
 use Rattle.machine.proofs.TagLaw.{current-held, current-other}
 use Rattle.machine.proofs.PassedLaw.{Passed, Changes, changed-group}
-use Rattle.machine.proofs.EffectLaw.{left, elsewhere, content-on-no-page, EachStore, each-put, each-evicted, Whole, Elsewhere, untouched}
-use Rattle.machine.proofs.EffectLaw.{stored-length, stored-append, held-whole, put-whole, put-none, put-some, evict-same, evict-other, content-whole}
-use Rattle.machine.proofs.EffectLaw.{changed-length, changed-reads}
+use Rattle.machine.proofs.EffectLaw.{left, elsewhere, content-on-no-page, EachStore, each-put, each-evicted, Whole, Elsewhere, untouched, stored-length}
+use Rattle.machine.proofs.EffectLaw.{stored-append, held-whole, put-whole, put-none, put-some, evict-same, evict-other, content-whole, changed-length}
+use Rattle.machine.proofs.LeavingLaw.{put-leaving, each-leaving, changed-reads}
 
 -- γ is any proper geometry
 module _ {γ : Geometry} (σ : Proper γ) where
@@ -72,10 +74,33 @@ module _ {γ : Geometry} (σ : Proper γ) where
 
     pub change-reads : Reads γ (changedMemory γ (s .memory) (groupOf γ (c .block)) (changedPage γ u c)) (salt (s .memory))
         (changed (count (s .memory)) (groupOf γ (c .block)) (count (s .memory) (groupOf γ (c .block)) + 1)) (lastTime γ (s .memory))
-        (groups γ (s .memory)) (groupOf γ (c .block)) (changedPage γ u c)
+        (groups γ (s .memory)) (heldAfter γ (Change u) (s .memory) c) (updatesAfter γ (Change u) (s .memory) c)
+        (elim (pageLeaves γ (s .memory) (groupOf γ (c .block))) [ true ↦ repeated (pageSize γ) 0 | false ↦ changedPage γ u c ])
     change-reads =
         changed-reads σ (s .memory) (q .memory .size) (groupOf γ (c .block)) (changedPage γ u c)
         (omega (arith, changed-group σ u s c x, q .memory .most)) (omega (arith, x .unexhausted)) (changed-length σ u c (x .proof))
+
+    pub change-time : lastTime γ (change γ u s c .memory) ≡ lastTime γ (s .memory)
+    unfolding change
+    change-time = change-reads .time
+
+    -- the changed page is held, or has left
+    pub change-holds : pageLeaves γ (s .memory) (groupOf γ (c .block)) ≡ false → held γ (change γ u s c .memory) ≡ groupOf γ (c .block)
+    unfolding change
+    change-holds e = change-reads .held ∙ ap (λ (b : Bool). elim b [ true ↦ none | false ↦ groupOf γ (c .block) ]) e
+
+    pub change-drops : pageLeaves γ (s .memory) (groupOf γ (c .block)) ≡ true → held γ (change γ u s c .memory) ≡ none
+    unfolding change
+    change-drops e = change-reads .held ∙ ap (λ (b : Bool). elim b [ true ↦ none | false ↦ groupOf γ (c .block) ]) e
+
+    pub change-page-held : pageLeaves γ (s .memory) (groupOf γ (c .block)) ≡ false → heldPage γ (change γ u s c .memory) ≡ changedPage γ u c
+    unfolding change
+    change-page-held e = change-reads .page ∙ ap (λ (b : Bool). elim b [ true ↦ repeated (pageSize γ) 0 | false ↦ changedPage γ u c ]) e
+
+    -- a page that leaves goes to its group's place
+    pub leaving-whole : Whole γ (groups γ (s .memory)) (store (pageBlock γ (groupOf γ (c .block))) (changedPage γ u c))
+    leaving-whole =
+        record { place = pageBlock-below σ (groups γ (s .memory)) (groupOf γ (c .block)) (changed-group σ u s c x); size = changed-length σ u c (x .proof) }
 
     evicted-length : length evicted ≡ diskSize γ (groups γ (s .memory))
     unfolding evicted
@@ -86,25 +111,83 @@ module _ {γ : Geometry} (σ : Proper γ) where
     content-stores : EachStore (Whole γ (groups γ (s .memory))) (putContent γ u (c .block) (c .content))
     content-stores = content-whole σ u (groups γ (s .memory)) (c .block) (c .content) (q .content) (x .range)
 
-    -- a block that the data do not go to
+    -- the disk once the data are stored too
+    filled : List ℕ
+    filled = stored γ evicted (putContent γ u (c .block) (c .content))
+
+    filled-length : length filled ≡ diskSize γ (groups γ (s .memory))
+    unfolding filled
+    filled-length = stored-length σ (groups γ (s .memory)) evicted (putContent γ u (c .block) (c .content)) content-stores evicted-length
+
+    -- and at the end
+    change-disk : left γ s (change γ u s c) .disk ≡ stored γ filled (putLeaving γ (s .memory) (groupOf γ (c .block)) (changedPage γ u c))
+    unfolding change evicted filled
+    change-disk =
+        let leaving : List Store = putLeaving γ (s .memory) (groupOf γ (c .block)) (changedPage γ u c) in
+        stored-append σ (s .disk) (evict γ (s .memory) (groupOf γ (c .block))) (putContent γ u (c .block) (c .content) ++ leaving)
+        ∙ stored-append σ evicted (putContent γ u (c .block) (c .content)) leaving
+
+    -- a block that a page which leaves does not go to
+    change-leaves : (p : ℕ) → (pageLeaves γ (s .memory) (groupOf γ (c .block)) ≡ true → p ≡ pageBlock γ (groupOf γ (c .block)) → ⊥)
+        → block γ (left γ s (change γ u s c) .disk) p ≡ block γ filled p
+    change-leaves p away =
+        let g = groupOf γ (c .block) in
+        ap (λ (d : List ℕ). block γ d p) change-disk
+        ∙ untouched σ (groups γ (s .memory)) p filled (putLeaving γ (s .memory) g (changedPage γ u c))
+        (each-leaving σ (Elsewhere γ (groups γ (s .memory)) p) (s .memory) g (changedPage γ u c)
+        (λ e. record { whole = leaving-whole; other = away e }))
+        filled-length
+
+    -- nor the data
     change-keeps : (p : ℕ) → EachStore (Elsewhere γ (groups γ (s .memory)) p) (putContent γ u (c .block) (c .content))
+        → (pageLeaves γ (s .memory) (groupOf γ (c .block)) ≡ true → p ≡ pageBlock γ (groupOf γ (c .block)) → ⊥)
         → block γ (left γ s (change γ u s c) .disk) p ≡ block γ evicted p
-    unfolding change evicted
-    change-keeps p h =
-        ap (λ (d : List ℕ). block γ d p) (stored-append σ (s .disk) (evict γ (s .memory) (groupOf γ (c .block))) (putContent γ u (c .block) (c .content)))
-        ∙ untouched σ (groups γ (s .memory)) p evicted (putContent γ u (c .block) (c .content)) h evicted-length
+    unfolding filled
+    change-keeps p h away =
+        change-leaves p away ∙ untouched σ (groups γ (s .memory)) p evicted (putContent γ u (c .block) (c .content)) h evicted-length
 
-    change-own : currentPage γ (left γ s (change γ u s c)) (groupOf γ (c .block)) ≡ changedPage γ u c
-    unfolding change
-    change-own = current-held σ (left γ s (change γ u s c)) (groupOf γ (c .block)) (change-reads .held) ∙ change-reads .page
-
-    change-other : (g : ℕ) → g < groups γ (s .memory) → (groupOf γ (c .block) ≡ g → ⊥) → currentPage γ (left γ s (change γ u s c)) g ≡ currentPage γ s g
-    unfolding change evicted stored
-    change-other g h n =
-        current-other σ (left γ s (change γ u s c)) g (λ e. n (sym (change-reads .held) ∙ e))
-        ∙ change-keeps (pageBlock γ g)
+    -- a page goes nowhere but to its group's place, and the data to no page
+    change-keeps-page : (g : ℕ) → (pageLeaves γ (s .memory) (groupOf γ (c .block)) ≡ true → groupOf γ (c .block) ≡ g → ⊥)
+        → block γ (left γ s (change γ u s c) .disk) (pageBlock γ g) ≡ block γ evicted (pageBlock γ g)
+    change-keeps-page g away =
+        change-keeps (pageBlock γ g)
         (elsewhere σ (groups γ (s .memory)) (pageBlock γ g) (putContent γ u (c .block) (c .content)) content-stores
         (content-on-no-page σ u (c .block) g (c .content)))
+        (λ e i. away e (sym (pageBlock-same σ g (groupOf γ (c .block)) i)))
+
+    -- a page that left is on the disk
+    pub change-left : pageLeaves γ (s .memory) (groupOf γ (c .block)) ≡ true
+        → block γ (left γ s (change γ u s c) .disk) (pageBlock γ (groupOf γ (c .block))) ≡ changedPage γ u c
+    unfolding stored
+    change-left e =
+        let g = groupOf γ (c .block) in
+        ap (λ (d : List ℕ). block γ d (pageBlock γ g)) change-disk
+        ∙ ap (λ (xs : List Store). block γ (stored γ filled xs) (pageBlock γ g)) (put-leaving σ (s .memory) g (changedPage γ u c) e)
+        ∙ block-same σ filled (pageBlock γ g) (changedPage γ u c) (leaving-whole .size)
+        (block-within σ filled (groups γ (s .memory)) (pageBlock γ g) filled-length (leaving-whole .place))
+
+    change-own : currentPage γ (left γ s (change γ u s c)) (groupOf γ (c .block)) ≡ changedPage γ u c
+    change-own =
+        let g = groupOf γ (c .block) in
+        true-or-false (pageLeaves γ (s .memory) g)
+        (λ e.
+        current-other σ (left γ s (change γ u s c)) g
+        (not-none (s .memory) (q .memory) g (held γ (change γ u s c .memory)) (change-drops e) (changed-group σ u s c x))
+        ∙ change-left e)
+        (λ e. current-held σ (left γ s (change γ u s c)) g (change-holds e) ∙ change-page-held e)
+
+    -- no other group is held
+    change-not-held : (g : ℕ) → g < groups γ (s .memory) → (groupOf γ (c .block) ≡ g → ⊥) → held γ (change γ u s c .memory) ≡ g → ⊥
+    change-not-held g h n e =
+        true-or-false (pageLeaves γ (s .memory) (groupOf γ (c .block)))
+        (λ i. not-none (s .memory) (q .memory) g (held γ (change γ u s c .memory)) (change-drops i) h e)
+        (λ i. n (sym (change-holds i) ∙ e))
+
+    change-other : (g : ℕ) → g < groups γ (s .memory) → (groupOf γ (c .block) ≡ g → ⊥) → currentPage γ (left γ s (change γ u s c)) g ≡ currentPage γ s g
+    unfolding evicted stored
+    change-other g h n =
+        current-other σ (left γ s (change γ u s c)) g (change-not-held g h n)
+        ∙ change-keeps-page g (λ e. n)
         ∙ same-or-not (held γ (s .memory)) (groupOf γ (c .block))
         (λ e.
         ap (λ (xs : List Store). block γ (stored γ (s .disk) xs) (pageBlock γ g)) (evict-same σ (s .memory) (groupOf γ (c .block)) e)
@@ -113,27 +196,28 @@ module _ {γ : Geometry} (σ : Proper γ) where
         ap (λ (xs : List Store). block γ (stored γ (s .disk) xs) (pageBlock γ g)) (evict-other σ (s .memory) (groupOf γ (c .block)) e)
         ∙ put-current s g (q .memory) (q .disk) h)
 
-    -- the group's own page on the disk stays, where no other group's is held
-    pub change-on-disk : (held γ (s .memory) ≡ none) ⊎ (held γ (s .memory) ≡ groupOf γ (c .block))
+    -- the group's own page on the disk stays, unless it leaves
+    pub change-on-disk : pageLeaves γ (s .memory) (groupOf γ (c .block)) ≡ false
         → block γ (left γ s (change γ u s c) .disk) (pageBlock γ (groupOf γ (c .block))) ≡ block γ (s .disk) (pageBlock γ (groupOf γ (c .block)))
     unfolding evicted stored
-    change-on-disk h =
+    change-on-disk stays =
         let g = groupOf γ (c .block) in
-        let stores-none : evict γ (s .memory) g ≡ [] =
-        ⊎-elim
-        (λ n. evict-other σ (s .memory) g (not-none (s .memory) (q .memory) g (held γ (s .memory)) n (changed-group σ u s c x)) ∙ put-none σ (s .memory) n)
-        (λ e. evict-same σ (s .memory) g e)
-        h in
-        change-keeps (pageBlock γ g)
-        (elsewhere σ (groups γ (s .memory)) (pageBlock γ g) (putContent γ u (c .block) (c .content)) content-stores
-        (content-on-no-page σ u (c .block) g (c .content)))
-        ∙ ap (λ (xs : List Store). block γ (stored γ (s .disk) xs) (pageBlock γ g)) stores-none
+        let m = s .memory in
+        change-keeps-page g (λ e. absurd (false≢true (sym stays ∙ e)))
+        ∙ same-or-not (held γ m) g
+        (λ e. ap (λ (xs : List Store). block γ (stored γ (s .disk) xs) (pageBlock γ g)) (evict-same σ m g e))
+        (λ n.
+        ap (λ (xs : List Store). block γ (stored γ (s .disk) xs) (pageBlock γ g)) (evict-other σ m g n)
+        ∙ untouched σ (groups γ m) (pageBlock γ g) (s .disk) (putHeld γ m)
+        (each-put σ (Elsewhere γ (groups γ m) (pageBlock γ g)) m
+        (λ some. record { whole = held-whole σ m (q .memory) some; other = λ p. n (sym (pageBlock-same σ g (held γ m) p)) }))
+        (q .disk))
 
     change-keeps-content : (a : ℕ) → EachStore (Elsewhere γ (groups γ (s .memory)) (physical γ a)) (putContent γ u (c .block) (c .content))
         → block γ (left γ s (change γ u s c) .disk) (physical γ a) ≡ block γ (s .disk) (physical γ a)
     unfolding evicted
     change-keeps-content a h =
-        change-keeps (physical γ a) h
+        change-keeps (physical γ a) h (λ e. physical-page σ a (groupOf γ (c .block)))
         ∙ untouched σ (groups γ (s .memory)) (physical γ a) (s .disk) (evict γ (s .memory) (groupOf γ (c .block)))
         (each-evicted σ (Elsewhere γ (groups γ (s .memory)) (physical γ a)) (s .memory) (groupOf γ (c .block)) (put-elsewhere (s .memory) (q .memory) a))
         (q .disk)
@@ -148,12 +232,11 @@ module _ {γ : Geometry} (σ : Proper γ) where
 
   written-content : (lock : ℕ) (s : Box) (c : Command) → Passed γ (Change (Write lock)) s c → Changes γ (Write lock) s c
       → block γ (left γ s (change γ (Write lock) s c) .disk) (physical γ (c .block)) ≡ c .content
-  unfolding change putContent stored evicted
+  unfolding putContent stored filled
   written-content lock s c q x =
       let u = Write lock in
       let w = content-stores u s c q x .0 in
-      ap (λ (d : List ℕ). block γ d (physical γ (c .block)))
-      (stored-append σ (s .disk) (evict γ (s .memory) (groupOf γ (c .block))) (putContent γ u (c .block) (c .content)))
+      change-leaves u s c q x (physical γ (c .block)) (λ e. physical-page σ (c .block) (groupOf γ (c .block)))
       ∙ block-same σ (evicted u s c q x) (physical γ (c .block)) (c .content) (w .size)
       (block-within σ (evicted u s c q x) (groups γ (s .memory)) (physical γ (c .block)) (evicted-length u s c q x) (w .place))
 

@@ -13,21 +13,19 @@ use Rattle.lockpage.specs.Size.{blockSize, pageSize}
 use Rattle.lockpage.specs.declared.Update.{Update}
 use Rattle.lockpage.specs.declared.Update.the-variants.{Write, Unfreeze, Increment}
 use Rattle.lockpage.proofs.PageLaw.{entry-within, withEntry-length}
-use Rattle.addressing.specs.Map.{groupBlocks, diskSize, dataBlocks, groupOf, placeOf, physical, pageBlock}
+use Rattle.addressing.specs.Map.{groupBlocks, diskSize, dataBlocks, placeOf, pageBlock}
 use Rattle.addressing.proofs.MapLaw.{placeOf-below, physical-below, physical-page, pageBlock-below}
 use Rattle.disk.specs.Disk.{block, withBlock}
 use Rattle.disk.proofs.DiskLaw.{withBlock-length, block-other, block-within}
 use Rattle.memory.specs.Layout.{memorySize, saltSize, countSize}
-use Rattle.memory.specs.Memory.{salt, count, lastTime, groups, held, none, heldPage, withCount, withNoCounts, holdingNone}
+use Rattle.memory.specs.Memory.{salt, count, lastTime, groups, held, none, updateCount, heldPage, withCount, withNoCounts, holdingNone}
 use Rattle.memory.specs.Claims.{Reads, changed}
-use Rattle.memory.proofs.FieldLaw.{salt-set, count-set, counts-cleared, page-held, page-dropped, heldPage-length}
+use Rattle.memory.proofs.FieldLaw.{salt-set, count-set, counts-cleared, page-dropped, heldPage-length}
 use Rattle.validity.proofs.ValidLaw.{Valid}
 use Rattle.machine.specs.declared.Kind.the-variants.{Change}
 use Rattle.machine.specs.Command.{Box, Command, boxOf, proofSize, broughtPage}
 use Rattle.machine.specs.Question.{contentLength}
-use Rattle.machine.specs.Effect.{Store, Effect, store, stored, putHeld, evict, putContent, updatedPage, changedPage, changedMemory, change}
-use Rattle.machine.specs.Effect.{restartedMemory, salted}
-use Rattle.machine.specs.After.{HeldPageFirst}
+use Rattle.machine.specs.Effect.{Store, Effect, store, stored, putHeld, evict, putContent, updatedPage, changedPage, restartedMemory, salted}
 use Rattle.machine.proofs.CaseLaw.{same-or-not}
 use Rattle.machine.proofs.TagLaw.{brought-length}
 
@@ -70,23 +68,6 @@ module _ (γ : Geometry) where
 module _ {γ : Geometry} (σ : Proper γ) where
   -- ---- the memory after
 
-  pub changed-reads : (m : List ℕ) → length m ≡ memorySize γ → (g : ℕ) (p : List ℕ) → g < γ .mostGroups → count m g + 1 < 256 ^ countSize
-      → length p ≡ pageSize γ
-      → Reads γ (changedMemory γ m g p) (salt m) (changed (count m) g (count m g + 1)) (lastTime γ m) (groups γ m) g p
-  unfolding changedMemory
-  changed-reads m l g p h n lp =
-      let a = count-set σ m l g (count m g + 1) h n in
-      let b = page-held σ (withCount m g (count m g + 1)) (a .size) g p (omega arith) lp in
-      record {
-        size = b .size;
-        salt = b .salt ∙ a .salt;
-        count = λ k i. b .count k i ∙ a .count k i;
-        time = b .time ∙ a .time;
-        groups = b .groups ∙ a .groups;
-        held = b .held;
-        page = b .page;
-      }
-
   pub restarted-none : (m : List ℕ) → held γ m ≡ none → restartedMemory γ m ≡ m
   unfolding restartedMemory
   restarted-none m e = rw (restartedMemory, eq-eqb (held γ m) none e)
@@ -94,13 +75,13 @@ module _ {γ : Geometry} (σ : Proper γ) where
   restarted-reads : (m : List ℕ) → length m ≡ memorySize γ → (held γ m ≡ none → ⊥) → held γ m < γ .mostGroups
       → count m (held γ m) + 1 < 256 ^ countSize
       → Reads γ (restartedMemory γ m) (salt m) (changed (count m) (held γ m) (count m (held γ m) + 1))
-      (lastTime γ m) (groups γ m) none (repeated (pageSize γ) 0)
+      (lastTime γ m) (groups γ m) none 0 (repeated (pageSize γ) 0)
   unfolding restartedMemory
   restarted-reads m l e h n = rw (restartedMemory, ne-eqb (held γ m) none e) (both (page-dropped σ m l))
     where
-      both : Reads γ (holdingNone γ m) (salt m) (count m) (lastTime γ m) (groups γ m) none (repeated (pageSize γ) 0)
+      both : Reads γ (holdingNone γ m) (salt m) (count m) (lastTime γ m) (groups γ m) none 0 (repeated (pageSize γ) 0)
           → Reads γ (withCount (holdingNone γ m) (held γ m) (count m (held γ m) + 1)) (salt m) (changed (count m) (held γ m) (count m (held γ m) + 1))
-          (lastTime γ m) (groups γ m) none (repeated (pageSize γ) 0)
+          (lastTime γ m) (groups γ m) none 0 (repeated (pageSize γ) 0)
       both a =
           let b = count-set σ (holdingNone γ m) (a .size) (held γ m) (count m (held γ m) + 1) h n in
           record {
@@ -110,6 +91,7 @@ module _ {γ : Geometry} (σ : Proper γ) where
             time = b .time ∙ a .time;
             groups = b .groups ∙ a .groups;
             held = b .held ∙ a .held;
+            updates = b .updates ∙ a .updates;
             page = b .page ∙ a .page;
           }
 
@@ -121,8 +103,8 @@ module _ {γ : Geometry} (σ : Proper γ) where
   module _ (m : List ℕ) (v : Valid γ m) where
     pub restarted-held-reads : (held γ m ≡ none → ⊥)
         → Reads γ (restartedMemory γ m) (salt m) (changed (count m) (held γ m) (count m (held γ m) + 1))
-        (lastTime γ m) (groups γ m) none (repeated (pageSize γ) 0)
-    restarted-held-reads n = restarted-reads m (v .size) n (omega (arith, v .group n, v .most)) (omega (arith, v .unexhausted n))
+        (lastTime γ m) (groups γ m) none 0 (repeated (pageSize γ) 0)
+    restarted-held-reads n = restarted-reads m (v .size) n (omega (arith, v .holds .group n, v .most)) (omega (arith, v .holds .unexhausted n))
 
     pub restarted-salt : salt (restartedMemory γ m) ≡ salt m
     restarted-salt = same-or-not (held γ m) none (λ n. ap salt (restarted-none m n)) (λ n. restarted-held-reads n .salt)
@@ -136,8 +118,12 @@ module _ {γ : Geometry} (σ : Proper γ) where
     pub restarted-drops : held γ (restartedMemory γ m) ≡ none
     restarted-drops = same-or-not (held γ m) none (λ n. ap (held γ) (restarted-none m n) ∙ n) (λ n. restarted-held-reads n .held)
 
+    pub restarted-updates : updateCount γ (restartedMemory γ m) ≡ 0
+    restarted-updates =
+        same-or-not (held γ m) none (λ n. ap (updateCount γ) (restarted-none m n) ∙ v .holds .no-updates n) (λ n. restarted-held-reads n .updates)
+
   pub salted-reads : (m s : List ℕ) → length m ≡ memorySize γ → length s ≡ saltSize
-      → Reads γ (salted γ m s) s (λ k. 0) (lastTime γ m) (groups γ m) none (repeated (pageSize γ) 0)
+      → Reads γ (salted γ m s) s (λ k. 0) (lastTime γ m) (groups γ m) none 0 (repeated (pageSize γ) 0)
   unfolding salted
   salted-reads m s l ls =
       let a = page-dropped σ m l in
@@ -150,6 +136,7 @@ module _ {γ : Geometry} (σ : Proper γ) where
         time = d .time ∙ b .time ∙ a .time;
         groups = d .groups ∙ b .groups ∙ a .groups;
         held = d .held ∙ b .held ∙ a .held;
+        updates = d .updates ∙ b .updates ∙ a .updates;
         page = d .page ∙ b .page ∙ a .page;
       }
 
@@ -236,7 +223,7 @@ module _ {γ : Geometry} (σ : Proper γ) where
       go false = h
 
   pub held-whole : (m : List ℕ) → Valid γ m → (held γ m ≡ none → ⊥) → Whole γ (groups γ m) (store (pageBlock γ (held γ m)) (heldPage γ m))
-  held-whole m v n = record { place = pageBlock-below σ (groups γ m) (held γ m) (v .group n); size = heldPage-length σ m (v .size) }
+  held-whole m v n = record { place = pageBlock-below σ (groups γ m) (held γ m) (v .holds .group n); size = heldPage-length σ m (v .size) }
 
   pub put-whole : (m : List ℕ) → Valid γ m → EachStore (Whole γ (groups γ m)) (putHeld γ m)
   put-whole m v = each-put (Whole γ (groups γ m)) m (held-whole m v)
@@ -257,12 +244,3 @@ module _ {γ : Geometry} (σ : Proper γ) where
   content-whole (Write lock) groups a content l h = (record { place = physical-below σ groups a h; size = l }, tt)
   content-whole Unfreeze groups a content l h = tt
   content-whole (Increment value) groups a content l h = tt
-
-  -- ---- an update's stores
-
-  -- where another group is held, its page goes first
-  pub held-first : HeldPageFirst γ
-  unfolding HeldPageFirst change putContent
-  held-first s c lock n other =
-      ap (λ (xs : List Store). xs ++ (store (physical γ (c .block)) (c .content) ∷ []))
-      (evict-other (s .memory) (groupOf γ (c .block)) other ∙ put-some (s .memory) n)

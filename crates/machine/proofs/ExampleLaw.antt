@@ -1,8 +1,7 @@
 -- The example of specs/Example.antt: its commands are accepted, and its pages not forged. Assumes nothing.
 use mathlib.Core.Path.{_≡_, refl, ap, sym, subst, _∙_}
-use mathlib.Core.Bool.{true}
+use mathlib.Core.Bool.{true, false}
 use mathlib.Mathlib.Data.Bool.Basic.{and-intro}
-use mathlib.Core.Logic.{_⊎_}
 use mathlib.Core.List.{List}
 use Prim.Native.Nat.{ℕ, _+_, _≤_, _<_}
 use native.Mathlib.Omega.{arith}
@@ -33,7 +32,7 @@ use Rattle.machine.specs.declared.Kind.the-variants.{Read, Entry, Change
 use Rattle.machine.specs.Command.{Box, Command, Outcome, kindNumbered, kindOf, proofSize, broughtPage, broughtEntry, answerSize}
 use Rattle.machine.specs.Tag.{tag, currentPage}
 use Rattle.machine.specs.Question.{contentLength, questionsTo, questions, firstNo, refusal, AllYes}
-use Rattle.machine.specs.Effect.{stored, effect, read, showEntry, updatedPage}
+use Rattle.machine.specs.Effect.{stored, effect, read, showEntry, pageLeaves, updatedPage}
 use Rattle.machine.specs.Step.{step, timed, done}
 use Rattle.machine.specs.Run.{Given}
 use Rattle.machine.specs.Claims.{ValidBox}
@@ -45,7 +44,8 @@ use Rattle.machine.proofs.TagLaw.{tagged-length, tagged-page, tagged-ta
 use Rattle.machine.proofs.PassedLaw.{Timely, passed, in-time, timed-reads}
 use Rattle.machine.proofs.ValidBoxLaw.{accepted-valid}
 use Rattle.machine.proofs.TimedLaw.{current-timed}
-use Rattle.machine.proofs.AfterLaw.{accepted-after, own-page, own-count, own-held, own-on-disk, lost-count}
+use Rattle.machine.proofs.AfterLaw.{accepted-after, own-page, own-count, own-held, own-left, own-on-disk, lost-count}
+use Rattle.machine.proofs.LeavingLaw.{new-stays}
 use Rattle.machine.proofs.AnswerLaw.{entry-answer}
 
 -- what a page of group 0 has: block 0's entry e, and block 1's, which is never written
@@ -62,6 +62,10 @@ pub record Known (time counted holds : ℕ) (now-entry disk-entry : PageEntry) (
   pub held-is : held base (s .memory) ≡ holds
   pub current : OnPage now-entry (currentPage base s 0)
   pub on-disk : OnPage disk-entry (block base (s .disk) (pageBlock base 0))
+
+-- group 0's page on a disk is the current one where none is held
+page-on-disk : (t : Box) → held base (t .memory) ≡ none → block base (t .disk) (pageBlock base 0) ≡ currentPage base t 0
+page-on-disk t n = sym (current-other base-proper t 0 (λ e. omega arith))
 
 -- ---- an update of block 0 that brings the current page
 
@@ -119,38 +123,64 @@ module _ {time counted holds : ℕ} {e d : PageEntry} {s : Box} (h : Known time 
         ),
       )
 
-  pub updated-known : (u : Update) (kind now value : ℕ) (content : List ℕ) → kindNumbered kind value ≡ Change u
-      → refusal base s (updating s kind now value content) ≡ 0 → (holds ≡ none) ⊎ (holds ≡ 0) → EntryFits (updated u now e)
-      → Known now (counted + 1) 0 (updated u now e) d (step base s (updating s kind now value content) .box)
-  unfolding groupOf placeOf updatedPage
-  updated-known u kind now value content k r held-here fits =
-      let c = updating s kind now value content in
-      let a = accepted-after base-proper s c r in
-      let p = broughtPage base (c .proof) in
-      let found : broughtEntry base c ≡ e = ap (λ (p : List ℕ). entryAt p 0) (brings kind now value content) ∙ h .current .written in
-      let size : length p ≡ pageSize base = ap (λ (l : List ℕ). length l) (brings kind now value content) ∙ page-length in
-      let inside = entry-within base-proper p 0 size (placeOf-below base-proper 0) in
-      record {
-        valid = accepted-valid base-proper s c r;
-        one = a .same-groups ∙ h .one;
-        last = a .time;
-        count-is = own-count base-proper u s c k r ∙ ap (λ (n : ℕ). n + 1) (h .count-is);
-        held-is = own-held base-proper u s c k r;
-        current =
-            subst (OnPage (updated u now e)) (sym (own-page base-proper u s c k r))
-            (record {
-              written =
-                  ap (λ (i : PageEntry). entryAt (withEntry p 0 (updated u now i)) 0) found ∙ entryAt-same p 0 (updated u now e) inside fits;
-              unwritten =
-                  entryAt-other p 0 (updated u now (broughtEntry base c)) inside 1 (λ x. omega arith)
-                  ∙ ap (λ (q : List ℕ). entryAt q 1) (brings kind now value content)
-                  ∙ h .current .unwritten;
-            });
-        on-disk =
-            subst (OnPage d)
-            (sym (own-on-disk base-proper u s c k r (subst (λ (i : ℕ). (i ≡ none) ⊎ (i ≡ 0)) (sym (h .held-is)) held-here)))
-            (h .on-disk);
-      }
+  module _ (u : Update) (kind now value : ℕ) (content : List ℕ) (k : kindNumbered kind value ≡ Change u)
+      (r : refusal base s (updating s kind now value content) ≡ 0) (fits : EntryFits (updated u now e)) where
+    -- the page after it
+    updated-page : OnPage (updated u now e) (currentPage base (step base s (updating s kind now value content) .box) 0)
+    unfolding groupOf placeOf updatedPage
+    updated-page =
+        let c = updating s kind now value content in
+        let p = broughtPage base (c .proof) in
+        let found : broughtEntry base c ≡ e = ap (λ (p : List ℕ). entryAt p 0) (brings kind now value content) ∙ h .current .written in
+        let size : length p ≡ pageSize base = ap (λ (l : List ℕ). length l) (brings kind now value content) ∙ page-length in
+        let inside = entry-within base-proper p 0 size (placeOf-below base-proper 0) in
+        subst (OnPage (updated u now e)) (sym (own-page base-proper u s c k r))
+        (record {
+          written = ap (λ (i : PageEntry). entryAt (withEntry p 0 (updated u now i)) 0) found ∙ entryAt-same p 0 (updated u now e) inside fits;
+          unwritten =
+              entryAt-other p 0 (updated u now (broughtEntry base c)) inside 1 (λ x. omega arith)
+              ∙ ap (λ (q : List ℕ). entryAt q 1) (brings kind now value content)
+              ∙ h .current .unwritten;
+        })
+
+    -- the page is held after it
+    pub updated-known : pageLeaves base (s .memory) 0 ≡ false
+        → Known now (counted + 1) 0 (updated u now e) d (step base s (updating s kind now value content) .box)
+    unfolding groupOf
+    updated-known stays =
+        let c = updating s kind now value content in
+        let a = accepted-after base-proper s c r in
+        record {
+          valid = accepted-valid base-proper s c r;
+          one = a .same-groups ∙ h .one;
+          last = a .time;
+          count-is = own-count base-proper u s c k r ∙ ap (λ (n : ℕ). n + 1) (h .count-is);
+          held-is = own-held base-proper u s c k r stays;
+          current = updated-page;
+          on-disk = subst (OnPage d) (sym (own-on-disk base-proper u s c k r stays)) (h .on-disk);
+        }
+
+    -- it has left
+    pub left-known : pageLeaves base (s .memory) 0 ≡ true
+        → Known now (counted + 1) none (updated u now e) (updated u now e) (step base s (updating s kind now value content) .box)
+    unfolding groupOf
+    left-known leaves =
+        let c = updating s kind now value content in
+        let a = accepted-after base-proper s c r in
+        let left = own-left base-proper u s c k r leaves in
+        record {
+          valid = accepted-valid base-proper s c r;
+          one = a .same-groups ∙ h .one;
+          last = a .time;
+          count-is = own-count base-proper u s c k r ∙ ap (λ (n : ℕ). n + 1) (h .count-is);
+          held-is = left;
+          current = updated-page;
+          on-disk = subst (OnPage (updated u now e)) (sym (page-on-disk (step base s c .box) left)) updated-page;
+        }
+
+  -- a page that comes in is held
+  pub comes-in : holds ≡ none → pageLeaves base (s .memory) 0 ≡ false
+  comes-in n = new-stays base-proper (s .memory) 0 (λ z. omega (arith, h .held-is))
 
   -- ---- a read, an entry, a sync and a restart are accepted
 
@@ -237,10 +267,6 @@ module _ {time counted holds : ℕ} {e d : PageEntry} {s : Box} (h : Known time 
   pub entry-known : (now : ℕ) → refusal base s (plain 2 now) ≡ 0 → Known now counted holds e d (step base s (plain 2 now) .box)
   unfolding kindNumbered done effect showEntry stored timed
   entry-known now r = command-known (plain 2 now) r (ap (λ (o : Outcome). o .box) (step-accepted base-proper Entry s (plain 2 now) refl r))
-
-  -- group 0's page on a disk is the current one where none is held
-  page-on-disk : (t : Box) → held base (t .memory) ≡ none → block base (t .disk) (pageBlock base 0) ≡ currentPage base t 0
-  page-on-disk t n = sym (current-other base-proper t 0 (λ e. omega arith))
 
   pub sync-known : (now : ℕ) → refusal base s (plain 7 now) ≡ 0 → Known now counted none e e (step base s (plain 7 now) .box)
   unfolding kindNumbered

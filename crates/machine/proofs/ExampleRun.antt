@@ -1,7 +1,6 @@
 -- The events of specs/Example.antt, one after the other: each is accepted. Assumes nothing.
 use mathlib.Core.Path.{_≡_, refl, subst, _∙_}
 use mathlib.Mathlib.Data.Bool.Basic.{and-intro}
-use mathlib.Core.Logic.{inl}
 use mathlib.Core.List.{[]}
 use native.Mathlib.Omega.{arith}
 use borrow.Author.Tests.{eq-eqb}
@@ -26,13 +25,13 @@ use Rattle.machine.specs.Question.{refusal}
 use Rattle.machine.specs.Format.{formatQuestions, format}
 use Rattle.machine.specs.Query.{queryRefusal}
 use Rattle.machine.specs.Claims.{Formats}
-use Rattle.machine.specs.Example.{formattedBox, writing, writtenBox, syncing, start, unfreezing, unfrozenBox, showing, shownBox, listing}
-use Rattle.machine.specs.Example.{listedBox, restarting, restartedBox, readingBack, readBox, unfreezingAgain, countingBox, overwriting, showingOther}
-use Rattle.machine.specs.Example.{otherBox, listingOther, otherListedBox, readingOther}
+use Rattle.machine.specs.Example.{formattedBox, writing, writtenBox, syncing, start, unfreezing, unfrozenBox, showing, shownBox, listing, listedBox}
+use Rattle.machine.specs.Example.{restarting, restartedBox, readingBack, readBox, unfreezingAgain, countingBox, overwriting, showingOther, otherBox}
+use Rattle.machine.specs.Example.{listingOther, otherListedBox, readingOther}
 use Rattle.machine.proofs.QuestionLaw.{yes-accepted}
 use Rattle.machine.proofs.TagLaw.{current-other}
 use Rattle.machine.proofs.FormatLaw.{formats}
-use Rattle.machine.proofs.ExampleLaw.{OnPage, Known, served, updated-known, read-served, entry-served, sync-served, restart-served, read-known}
+use Rattle.machine.proofs.ExampleLaw.{OnPage, Known, served, updated-known, comes-in, read-served, entry-served, sync-served, restart-served, read-known}
 use Rattle.machine.proofs.ExampleLaw.{entry-known, sync-known, restart-known}
 use Rattle.machine.proofs.ExampleQueryLaw.{asking-served, asking-known}
 
@@ -84,11 +83,11 @@ writing-served =
     served known-formatted (Write 500) 4 1000 500 (repeated (blockSize base) 1) refl (lit≤ tt) (lit≤ tt) (lit< tt)
     (repeated-length (blockSize base) 1) refl refl
 
-known-written : Known 1000 1 0 (entry 500 2000) blankEntry writtenBox
+pub known-written : Known 1000 1 0 (entry 500 2000) blankEntry writtenBox
 unfolding writtenBox kindNumbered updated
 known-written =
-    updated-known known-formatted (Write 500) 4 1000 500 (repeated (blockSize base) 1) refl writing-served (inl refl)
-    (record { word = lit< tt; stamp = lit< tt })
+    updated-known known-formatted (Write 500) 4 1000 500 (repeated (blockSize base) 1) refl writing-served
+    (record { word = lit< tt; stamp = lit< tt }) (comes-in known-formatted refl)
 
 pub syncing-served : refusal base writtenBox syncing ≡ 0
 syncing-served = sync-served known-written 1000 (lit≤ tt) (lit≤ tt)
@@ -104,7 +103,8 @@ unfreezing-served = served known-start Unfreeze 5 1200 0 [] refl (lit≤ tt) (li
 pub known-unfrozen : Known 1200 2 0 (entry 1701 2001) (entry 500 2000) unfrozenBox
 unfolding unfrozenBox kindNumbered timeOfWrite expiryAt updated
 known-unfrozen =
-    updated-known known-start Unfreeze 5 1200 0 [] refl unfreezing-served (inl refl) (record { word = lit< tt; stamp = lit< tt })
+    updated-known known-start Unfreeze 5 1200 0 [] refl unfreezing-served (record { word = lit< tt; stamp = lit< tt })
+    (comes-in known-start refl)
 
 pub showing-served : refusal base unfrozenBox showing ≡ 0
 showing-served = entry-served known-unfrozen 1250 (lit≤ tt) (lit≤ tt)
@@ -141,7 +141,8 @@ unfreezing-again-served = served known-read Unfreeze 5 1400 0 [] refl (lit≤ tt
 pub known-counting : Known 1400 4 0 (entry 1901 2001) (entry 500 2000) countingBox
 unfolding countingBox kindNumbered timeOfWrite expiryAt updated
 known-counting =
-    updated-known known-read Unfreeze 5 1400 0 [] refl unfreezing-again-served (inl refl) (record { word = lit< tt; stamp = lit< tt })
+    updated-known known-read Unfreeze 5 1400 0 [] refl unfreezing-again-served (record { word = lit< tt; stamp = lit< tt })
+    (comes-in known-read refl)
 
 pub overwriting-served : refusal base countingBox overwriting ≡ 0
 unfolding kindNumbered timeOfWrite flag isFrozen state expiryAt updated allowed wordLimit withinLimit

@@ -187,7 +187,7 @@ module _ {γ : Geometry} (σ : Proper γ) where
           refused = λ n. ap (λ (o : FormatOutcome). o .box) (format-refused (λ e. n (format-number ∙ e)));
           valid = when-accepted (ValidBox γ) box-valid;
           reads =
-              when-accepted (λ (t : Box). Reads γ (t .memory) salt (λ k. 0) 0 g none (repeated (pageSize γ) 0))
+              when-accepted (λ (t : Box). Reads γ (t .memory) salt (λ k. 0) 0 g none 0 (repeated (pageSize γ) 0))
               (λ f. formatted-reads σ g salt (omega (arith, f .most)) (f .salt-size));
           blank = λ z a h. when-accepted (λ (t : Box). entryAt (currentPage γ t (groupOf γ a)) (placeOf γ a) ≡ blankEntry) (λ f. box-blank f a h) z;
           untouched =

@@ -1,7 +1,6 @@
 -- Each accepted command keeps a watched block: the invariant of SafeLaw.antt, kind by kind. Assumes nothing.
 use mathlib.Core.Path.{_≡_, refl, ap, sym, subst, _∙_}
 use mathlib.Core.Bool.{true}
-use mathlib.Core.List.{_++_}
 use Prim.Native.Nat.{ℕ, _<_}
 use native.Mathlib.Omega.{arith}
 use lib.ListN.{length}
@@ -23,13 +22,15 @@ use Rattle.machine.specs.declared.Kind.the-variants.{Read, Entry, Page, 
 use Rattle.machine.specs.Command.{Box, Command, broughtPage, broughtEntry}
 use Rattle.machine.specs.Tag.{currentPage}
 use Rattle.machine.specs.Question.{contentLength}
-use Rattle.machine.specs.Effect.{stored, effect, read, showEntry, showPage, putHeld, evict, putContent, updatedPage, changedPage, change, sync, restart}
-use Rattle.machine.specs.Effect.{newSalt, identify}
+use Rattle.machine.specs.Effect.{stored, effect, read, showEntry, showPage, putHeld, putContent, updatedPage, changedPage, change, sync, restart, newSalt}
+use Rattle.machine.specs.Effect.{identify, store, pageLeaves}
 use Rattle.machine.specs.Step.{timed}
 use Rattle.machine.proofs.TagLaw.{current, brought-length}
 use Rattle.machine.proofs.PassedLaw.{Timely, Passed, Changes, changed-group, timed-reads}
-use Rattle.machine.proofs.EffectLaw.{left, EachStore, each-append, each-put, each-evicted, held-whole, content-whole, changed-length, changed-reads}
-use Rattle.machine.proofs.EffectLaw.{restarted-time, restarted-drops, salted-reads}
+use Rattle.machine.proofs.EffectLaw.{left, EachStore, each-put, held-whole, content-whole, restarted-time, restarted-drops, salted-reads}
+use Rattle.machine.proofs.LeavingLaw.{each-change}
+use Rattle.machine.proofs.ChangeLaw.{change-time, change-holds, change-drops, change-page-held, leaving-whole}
+use Rattle.machine.proofs.CaseLaw.{true-or-false}
 use Rattle.machine.proofs.SafeLaw.{Watch, Safe, SafePage, SafeDisk, SafeBox, Harmless, Kept, safe-not-free, safe-updated, safe-page, stores-safe}
 
 -- γ is any proper geometry
@@ -106,7 +107,7 @@ module _ {γ : Geometry} (σ : Proper γ) where
 
   module _ (w : Watch) (u : Update) (s : Box) (c : Command) (q : Passed γ (Change u) s c) (x : Changes γ u s c)
       (time : lastTime γ (s .memory) ≡ c .now) (brings : broughtPage γ (c .proof) ≡ currentPage γ s (groupOf γ (c .block)))
-      (leaves : u ≡ Unfreeze → c .block ≡ w .block → w .forever ≡ true → ⊥) (h : Kept γ w s) where
+      (spares : u ≡ Unfreeze → c .block ≡ w .block → w .forever ≡ true → ⊥) (h : Kept γ w s) where
     -- the page brought, where it is of the block's group
     brought-safe : SafeBox γ w s → groupOf γ (c .block) ≡ groupOf γ (w .block) → SafePage γ w (broughtPage γ (c .proof))
     brought-safe safe e =
@@ -123,7 +124,7 @@ module _ {γ : Geometry} (σ : Proper γ) where
         (λ i.
         safe-updated w u (broughtEntry γ c) (c .now)
         (subst (λ (j : ℕ). Safe w (entryAt (broughtPage γ (c .proof)) j)) (sym i) found)
-        (omega (arith, h .begun)) l (q .early) (x .may) (x .within) (λ f. leaves f (place-same σ (c .block) (w .block) e i)))
+        (omega (arith, h .begun)) l (q .early) (x .may) (x .within) (λ f. spares f (place-same σ (c .block) (w .block) e i)))
 
     -- a safe entry does not let the block be written
     written-other : (lock : ℕ) → u ≡ Write lock → SafeBox γ w s → c .now < w .bound → w .block ≡ c .block → ⊥
@@ -149,28 +150,35 @@ module _ {γ : Geometry} (σ : Proper γ) where
     content-harmless Unfreeze e safe l = tt
     content-harmless (Increment value) e safe l = tt
 
-    change-kept : Kept γ w (left γ s (change γ u s c))
-    unfolding change
-    change-kept =
-        let g = groupOf γ (c .block) in
-        let v = q .memory in
-        let r =
-        changed-reads σ (s .memory) (v .size) g (changedPage γ u c) (omega (arith, changed-group σ u s c x, v .most)) (omega (arith, x .unexhausted))
-        (changed-length σ u c (x .proof)) in
+    -- the changed page, where it leaves, has a safe entry
+    leaving-harmless : SafeBox γ w s → c .now < w .bound
+        → Harmless γ w (groups γ (s .memory)) (store (pageBlock γ (groupOf γ (c .block))) (changedPage γ u c))
+    leaving-harmless safe early =
         record {
-          begun = omega (arith, r .time, h .begun);
+          whole = leaving-whole σ u s c q x;
+          not-content = physical-page σ (w .block) (groupOf γ (c .block));
+          page = λ e. changed-safe safe early (sym (pageBlock-same σ (groupOf γ (w .block)) (groupOf γ (c .block)) e));
+        }
+
+    change-kept : Kept γ w (left γ s (change γ u s c))
+    change-kept =
+        let time-same : lastTime γ (change γ u s c .memory) ≡ lastTime γ (s .memory) = change-time σ u s c q x in
+        record {
+          begun = omega (arith, h .begun);
           safe =
               λ l.
-              let early : c .now < w .bound = omega (arith, r .time) in
+              let early : c .now < w .bound = omega arith in
               let safe = h .safe (omega arith) in
               record {
                 disk =
-                    stores-safe σ w (groups γ (s .memory)) (s .disk) (evict γ (s .memory) g ++ putContent γ u (c .block) (c .content))
-                    (each-append (Harmless γ w (groups γ (s .memory))) (evict γ (s .memory) g) (putContent γ u (c .block) (c .content))
-                    (each-evicted σ (Harmless γ w (groups γ (s .memory))) (s .memory) g (held-harmless w s v safe))
-                    (content-harmless u refl safe early))
+                    stores-safe σ w (groups γ (s .memory)) (s .disk) (change γ u s c .stores)
+                    (each-change σ (Harmless γ w (groups γ (s .memory))) u s c (held-harmless w s (q .memory) safe)
+                    (content-harmless u refl safe early) (leaving-harmless safe early))
                     (q .disk) (safe .disk);
-                held = λ n e. subst (SafePage γ w) (sym (r .page)) (changed-safe safe early (sym (r .held) ∙ e));
+                held =
+                    λ n e.
+                    true-or-false (pageLeaves γ (s .memory) (groupOf γ (c .block))) (λ i. absurd (n (change-drops σ u s c q x i)))
+                    (λ i. subst (SafePage γ w) (sym (change-page-held σ u s c q x i)) (changed-safe safe early (sym (change-holds σ u s c q x i) ∙ e)));
               };
         }
 

@@ -9,6 +9,7 @@ pub mod PassedLaw
 pub mod ListedLaw
 pub mod QueryLaw
 pub mod EffectLaw
+pub mod LeavingLaw
 pub mod ValidBoxLaw
 pub mod BytesLaw
 pub mod ChangeLaw
@@ -21,11 +22,13 @@ pub mod PagesLaw
 pub mod QueryShownLaw
 pub mod FormatLaw
 pub mod ShortcutLaw
+pub mod LossLaw
 pub mod EdgeLaw
 pub mod ExampleLaw
 pub mod ExampleQueryLaw
 pub mod ExampleRun
 pub mod ExamplePremises
+pub mod ExampleLeaving
 pub mod SafeLaw
 pub mod KeptLaw
 pub mod ShownLaw

@@ -46,7 +46,7 @@ use Rattle.machine.proofs.EffectLaw.{changed-length, count-changed, cou
 use Rattle.machine.proofs.ValidBoxLaw.{accepted-valid}
 use Rattle.machine.proofs.TimedLaw.{in-memory}
 use Rattle.machine.proofs.AnswerLaw.{changed-answer}
-use Rattle.machine.proofs.AfterLaw.{accepted-after, own-count, own-held, lost-count}
+use Rattle.machine.proofs.AfterLaw.{accepted-after, own-count, lost-count}
 use Rattle.machine.proofs.CurrentLaw.{own-fits, own-entry}
 
 -- a count raised by 1 or left
@@ -139,7 +139,7 @@ module _ {γ : Geometry} (σ : Proper γ) where
       raised (count m) (groupOf γ (c .block)) g (λ e. omega arith) small
   count-rises Sync m c g n v h x small = (omega arith, small)
   count-rises Restart m c g n v h x small =
-      raised (count m) (held γ m) g (λ e. v .unexhausted (λ none-held. omega (arith, v .most))) small
+      raised (count m) (held γ m) g (λ e. v .holds .unexhausted (λ none-held. omega (arith, v .most))) small
   count-rises NewSalt m c g n v h x small = absurd (n refl)
   count-rises Identify m c g n v h x small = (omega arith, small)
   count-rises Unknown m c g n v h x small = (omega arith, small)
@@ -213,13 +213,12 @@ module _ {γ : Geometry} (σ : Proper γ) where
 
   -- a restart after it counts once more
   counted-restart : (u : Update) (s : Box) (c r : Command) → kindOf c ≡ Change u → kindOf r ≡ Restart → refusal γ s c ≡ 0
-      → refusal γ (step γ s c .box) r ≡ 0
+      → held γ (step γ s c .box .memory) ≡ groupOf γ (c .block) → refusal γ (step γ s c .box) r ≡ 0
       → Counted γ (groupOf γ (c .block)) (count (step γ s c .box .memory) (groupOf γ (c .block))) (step γ (step γ s c .box) r .box)
-  counted-restart u s c r ec er rc rr =
+  counted-restart u s c r ec er rc is-held rr =
       let g = groupOf γ (c .block) in
       let t = step γ s c .box in
       let h = counted-update u s c ec rc in
-      let is-held = own-held σ u s c ec rc in
       let of-box : held γ (t .memory) < groups γ (t .memory) = subst (λ (i : ℕ). i < groups γ (t .memory)) (sym is-held) (h .of-box) in
       let up : count (step γ t r .box .memory) g ≡ count (t .memory) g + 1 =
       subst (λ (i : ℕ). count (step γ t r .box .memory) i ≡ count (t .memory) i + 1) is-held (lost-count σ t r er rr of-box) in
@@ -250,13 +249,13 @@ module _ {γ : Geometry} (σ : Proper γ) where
 
   pub lost-page-refused : LostPageRefused γ
   unfolding LostPageRefused
-  lost-page-refused s c r es d u v ec kr ed a b stays same proof differ =
+  lost-page-refused s c r es d u v ec kr ed a is-held b stays same proof differ =
       let g = groupOf γ (c .block) in
       let t = step γ s c .box in
       let ra = accepts σ s c a in
       let er = restart-kind (r .kind) (r .value) kr in
       let before = counted-update u s c ec ra in
-      let h = counted-run g (count (t .memory) g) (step γ t r .box) es stays (counted-restart u s c r ec er ra (accepts σ t r b)) in
+      let h = counted-run g (count (t .memory) g) (step γ t r .box) es stays (counted-restart u s c r ec er ra is-held (accepts σ t r b)) in
       stale (t .memory) g (run γ (step γ t r .box) es) d v ed same
       (subst (λ (p : List ℕ). broughtTag γ p ≡ tag γ (t .memory) g (broughtPage γ p)) (sym proof) (answered-tag u s c ec ra))
       (box-size t (before .valid)) (box-size (run γ (step γ t r .box) es) (h .valid)) (before .small) (h .small) (λ e. omega (arith, h .more))

@@ -47,6 +47,11 @@ module _ {γ : Geometry} (σ : Proper γ) where
   unfolding tagged
   tagged-are m g p b = below-append 256 p (tag γ m g p) b (tag-are m g p)
 
+  -- the tag hangs on the salt and on the group's count
+  pub tag-same : (m n : List ℕ) (g : ℕ) (p : List ℕ) → salt n ≡ salt m → count n g ≡ count m g → tag γ n g p ≡ tag γ m g p
+  unfolding tag tagMessage
+  tag-same m n g p es ec = rw (es, ec)
+
   -- what is brought when a page is brought with its tag
   pub tagged-page : (m : List ℕ) (g : ℕ) (p : List ℕ) → length p ≡ pageSize γ → broughtPage γ (tagged γ m g p) ≡ p
   unfolding tagged broughtPage

@@ -14,27 +14,29 @@ use Rattle.validity.proofs.ValidLaw.{facts}
 use Rattle.machine.specs.Command.{Box, Command, kindOf}
 use Rattle.machine.specs.Question.{refusal, questions}
 use Rattle.machine.specs.Step.{step, padded}
-use Rattle.machine.specs.Claims.{PapersBufferSizes, PassesIfAllYes, KindsAreOneToTen, NumberIsFirstNo, RefusalAltersNothing}
-use Rattle.machine.specs.Claims.{AcceptedLeavesValid, StaysValid, InvalidRefuses, StepKeepsBytes, SameLengths, StepKeepsLengths}
-use Rattle.machine.specs.Claims.{FormattingFormats}
-use Rattle.machine.specs.After.{AcceptedDoes, NewSaltDiffers, HeldPageFirst, AnswersServe}
+use Rattle.machine.specs.Claims.{PapersBufferSizes, PassesIfAllYes, KindsAreOneToTen, NumberIsFirstNo, RefusalAltersNothing, AcceptedLeavesValid}
+use Rattle.machine.specs.Claims.{StaysValid, InvalidRefuses, StepKeepsBytes, SameLengths, StepKeepsLengths, FormattingFormats}
+use Rattle.machine.specs.After.{AcceptedDoes, NewSaltDiffers, HeldPageFirst, LeavingPageLast, AnswersServe}
 use Rattle.machine.specs.Protection.{startContent, startEntry, FrozenUnder, Demand3, ReadsAlike, EntriesAlike}
+use Rattle.machine.specs.Leaving.{RestartLosesFew, FollowedUpdateStays, LeftPageServes}
 use Rattle.machine.specs.Shortcuts.{Shortcuts}
 use Rattle.machine.specs.EdgeValues.{EdgeValues}
 use Rattle.machine.specs.Expiry.{ProtectedThroughLock, lockOf, UnfrozenNotFree, UnfrozenThenFree}
 use Rattle.machine.specs.Example.{PremisesMet, ExpiryMet, CountingMet}
+use Rattle.machine.specs.ExampleLeaving.{LeavingMet}
 use Rattle.machine.proofs.CaseLaw.{same-or-not}
 use Rattle.machine.proofs.KindLaw.{one-to-ten, new-salt-kind}
 use Rattle.machine.proofs.QuestionLaw.{passes-if, answers-first-no, refused-by-second, all-numbered, all-yes}
 use Rattle.machine.proofs.StepLaw.{unaltered-bytes, unaltered-lengths, refused-by, step-number, accepts, refused-unaltered}
 use Rattle.machine.proofs.TagLaw.{message-length}
 use Rattle.machine.proofs.PassedLaw.{passed}
-use Rattle.machine.proofs.EffectLaw.{held-first}
+use Rattle.machine.proofs.LeavingLaw.{held-first, leaving-last}
 use Rattle.machine.proofs.ValidBoxLaw.{accepted-valid, run-valid}
 use Rattle.machine.proofs.BytesLaw.{answer-length, accepted-bytes}
 use Rattle.machine.proofs.AfterLaw.{accepted-after}
 use Rattle.machine.proofs.AfterLaw as AfterLaw
-use Rattle.machine.proofs.AnswerLaw.{answer-serves}
+use Rattle.machine.proofs.AnswerLaw.{answer-serves, left-serves}
+use Rattle.machine.proofs.LossLaw.{loses-few, followed-stays}
 use Rattle.machine.proofs.FormatLaw as format
 use Rattle.machine.proofs.ShortcutLaw as shortcut
 use Rattle.machine.proofs.EdgeLaw as edge
@@ -42,6 +44,7 @@ use Rattle.machine.proofs.ExamplePremises as example
 use Rattle.machine.proofs.AlikeLaw.{both-shown, seen-alike}
 use Rattle.machine.proofs.ExpiryLaw as expiry
 use Rattle.machine.proofs.ExampleExpiry as example-expiry
+use Rattle.machine.proofs.ExampleLeaving as example-leaving
 
 -- ---- specs/Claims.antt
 
@@ -127,6 +130,20 @@ module _ {γ : Geometry} (σ : Proper γ) where
   pub held-page-first : HeldPageFirst γ
   held-page-first = held-first σ
 
+  pub leaving-page-last : LeavingPageLast γ
+  leaving-page-last = leaving-last σ
+
+  -- ---- specs/Leaving.antt
+
+  pub restart-loses-few : RestartLosesFew γ
+  restart-loses-few = loses-few σ
+
+  pub followed-update-stays : FollowedUpdateStays γ
+  followed-update-stays = followed-stays σ
+
+  pub left-page-serves : LeftPageServes γ
+  left-page-serves = left-serves σ
+
   -- ---- specs/Shortcuts.antt
 
   pub shortcuts : Shortcuts γ
@@ -185,6 +202,9 @@ expiry-met = example-expiry.expiry-met
 
 pub counting-met : CountingMet
 counting-met = example-expiry.counting-met
+
+pub leaving-met : LeavingMet
+leaving-met = example-leaving.leaving-met
 
 -- ---- demand 3 of document 01's box, and of the box that the code runs
 

@@ -2,7 +2,7 @@
 -- changes nothing else. Assumes nothing.
 use mathlib.Core.Path.{_≡_, refl, ap, ap₂, sym, _∙_}
 use mathlib.Core.List.{List}
-use mathlib.Core.Bool.{true, false}
+use mathlib.Core.Bool.{Bool, true, false}
 use Prim.Native.Nat.{ℕ, _+_, _<_}
 use native.Mathlib.Omega.{arith}
 use lib.Dec.{eqb}
@@ -17,9 +17,10 @@ use Rattle.machine.specs.declared.Kind.{Kind}
 use Rattle.machine.specs.declared.Kind.the-variants.{Read, Entry, Page, Change, Sync, Restart, NewSalt, Identify, Unknown}
 use Rattle.machine.specs.Command.{Box, Command}
 use Rattle.machine.specs.Tag.{currentPage}
-use Rattle.machine.specs.Effect.{changedPage}
+use Rattle.machine.specs.Effect.{changedPage, nextUpdateCount, pageLeaves}
 use Rattle.machine.specs.Step.{timed}
-use Rattle.machine.specs.After.{saltAfter, countAfter, heldAfter, pageAfter}
+use Rattle.machine.specs.After.{saltAfter, countAfter, heldAfter, pageAfter, updatesAfter}
+use Rattle.machine.proofs.LeavingLaw.{next-alike, leaves-alike}
 use Rattle.machine.proofs.CaseLaw.{same-or-not}
 use Rattle.machine.proofs.TagLaw.{current-same}
 use Rattle.machine.proofs.PassedLaw.{Timely, Passed, in-time, timed-reads}
@@ -78,7 +79,7 @@ module _ {γ : Geometry} (σ : Proper γ) where
         count-unchanged (count tm) (held γ m) (count tm (held γ m) + 1) g other
         ∙ count-set-time g h
         ∙ sym (count-unchanged (count m) (held γ m) (count m (held γ m) + 1) g other))
-        (λ n. raised-same (count tm) (count m) (held γ m) g (count-set-time (held γ m) (q .memory .group n)) (count-set-time g h))
+        (λ n. raised-same (count tm) (count m) (held γ m) g (count-set-time (held γ m) (q .memory .holds .group n)) (count-set-time g h))
 
   pub salt-timed : (k : Kind) (s : Box) (c : Command) → Passed γ k s c → saltAfter k (timed γ s (c .now) .memory) c ≡ saltAfter k (s .memory) c
   salt-timed Read s c q = timed-reads σ s (c .now) (in-time σ Read s c q) .salt
@@ -106,14 +107,40 @@ module _ {γ : Geometry} (σ : Proper γ) where
   counts-timed Identify s c q x g h = count-set-time Identify s c q g h
   counts-timed Unknown s c q x g h = count-set-time Unknown s c q g h
 
+  module _ (k : Kind) (s : Box) (c : Command) (q : Passed γ k s c) (g : ℕ) where
+    pub next-timed : nextUpdateCount γ (timed γ s (c .now) .memory) g ≡ nextUpdateCount γ (s .memory) g
+    next-timed =
+        let r = timed-reads σ s (c .now) (in-time σ k s c q) in
+        next-alike σ (s .memory) (timed γ s (c .now) .memory) g (r .held) (r .updates)
+
+    pub leaves-timed : pageLeaves γ (timed γ s (c .now) .memory) g ≡ pageLeaves γ (s .memory) g
+    leaves-timed =
+        let r = timed-reads σ s (c .now) (in-time σ k s c q) in
+        leaves-alike σ (s .memory) (timed γ s (c .now) .memory) g (r .held) (r .updates)
+
   pub held-timed : (k : Kind) (s : Box) (c : Command) → Passed γ k s c → heldAfter γ k (timed γ s (c .now) .memory) c ≡ heldAfter γ k (s .memory) c
   unfolding tm
   held-timed Read s c q = held-set-time Read s c q
   held-timed Entry s c q = held-set-time Entry s c q
   held-timed Page s c q = held-set-time Page s c q
-  held-timed (Change u) s c q = refl
+  held-timed (Change u) s c q =
+      ap (λ (b : Bool). elim b [ true ↦ none | false ↦ groupOf γ (c .block) ]) (leaves-timed (Change u) s c q (groupOf γ (c .block)))
   held-timed Sync s c q = refl
   held-timed Restart s c q = refl
   held-timed NewSalt s c q = refl
   held-timed Identify s c q = held-set-time Identify s c q
   held-timed Unknown s c q = held-set-time Unknown s c q
+
+  pub updates-timed : (k : Kind) (s : Box) (c : Command) → Passed γ k s c
+      → updatesAfter γ k (timed γ s (c .now) .memory) c ≡ updatesAfter γ k (s .memory) c
+  updates-timed Read s c q = timed-reads σ s (c .now) (in-time σ Read s c q) .updates
+  updates-timed Entry s c q = timed-reads σ s (c .now) (in-time σ Entry s c q) .updates
+  updates-timed Page s c q = timed-reads σ s (c .now) (in-time σ Page s c q) .updates
+  updates-timed (Change u) s c q =
+      let g = groupOf γ (c .block) in
+      ap₂ (λ (b : Bool) (n : ℕ). elim b [ true ↦ 0 | false ↦ n ]) (leaves-timed (Change u) s c q g) (next-timed (Change u) s c q g)
+  updates-timed Sync s c q = refl
+  updates-timed Restart s c q = refl
+  updates-timed NewSalt s c q = refl
+  updates-timed Identify s c q = timed-reads σ s (c .now) (in-time σ Identify s c q) .updates
+  updates-timed Unknown s c q = timed-reads σ s (c .now) (in-time σ Unknown s c q) .updates

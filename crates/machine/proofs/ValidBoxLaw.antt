@@ -2,7 +2,7 @@
 use mathlib.Core.Path.{_≡_, refl, ap, sym, subst, _∙_}
 use mathlib.Core.Bool.{true}
 use mathlib.Core.Logic.{⊎-elim}
-use mathlib.Core.List.{List, [], _∷_, _++_}
+use mathlib.Core.List.{List, [], _∷_}
 use Prim.Native.Nat.{ℕ, _+_, _<_}
 use native.Mathlib.Omega.{arith}
 use lib.ListN.{length}
@@ -19,18 +19,20 @@ use Rattle.machine.specs.declared.Kind.{Kind}
 use Rattle.machine.specs.declared.Kind.the-variants.{Read, Entry, Page, Change, Sync, Restart, NewSalt, Identify, Unknown}
 use Rattle.machine.specs.Command.{Box, Command, Outcome, boxOf, kindOf}
 use Rattle.machine.specs.Question.{refusal}
-use Rattle.machine.specs.Effect.{Store, stored, effect, read, showEntry, showPage, putHeld, evict, putContent, changedPage, changedMemory, change, sync}
-use Rattle.machine.specs.Effect.{restartedMemory, restart, salted, newSalt, identify}
+use Rattle.machine.specs.Effect.{Store, stored, effect, read, showEntry, showPage, putHeld, changedPage, changedMemory, change, sync, restartedMemory}
+use Rattle.machine.specs.Effect.{restart, salted, newSalt, identify, nextUpdateCount, pageLeaves}
 use Rattle.machine.specs.Step.{step, timed, done}
 use Rattle.machine.specs.Run.{Event, Given, Queried, after, run}
 use Rattle.machine.specs.Claims.{ValidBox}
-use Rattle.machine.proofs.CaseLaw.{same-or-not}
+use Rattle.machine.proofs.CaseLaw.{same-or-not, true-or-false}
 use Rattle.machine.proofs.QuestionLaw.{all-yes}
 use Rattle.machine.proofs.StepLaw.{step-accepted, accepted-or-same}
 use Rattle.machine.proofs.PassedLaw.{Passed, Changes, passed, passed-timed, changed-group, accepted-changes}
 use Rattle.machine.proofs.QueryLaw.{query-valid, query-or-same}
-use Rattle.machine.proofs.EffectLaw.{left, EachStore, Whole, each-append, each-evicted, put-whole, content-whole, stored-length, changed-length}
-use Rattle.machine.proofs.EffectLaw.{count-changed, changed-reads, restarted-none, restarted-held, restarted-groups, salted-reads}
+use Rattle.machine.proofs.EffectLaw.{left, EachStore, Whole, put-whole, content-whole, stored-length, changed-length, count-changed, restarted-none}
+use Rattle.machine.proofs.EffectLaw.{restarted-held, restarted-groups, salted-reads}
+use Rattle.machine.proofs.LeavingLaw.{next-some, stays-few, changed-leaving, changed-staying, each-change}
+use Rattle.machine.proofs.ChangeLaw.{change-reads, leaving-whole}
 
 -- γ is any proper geometry
 module _ {γ : Geometry} (σ : Proper γ) where
@@ -41,13 +43,16 @@ module _ {γ : Geometry} (σ : Proper γ) where
 
   changed-valid : (m : List ℕ) → Valid γ m → (g : ℕ) (p : List ℕ) → g < groups γ m → count m g < countLimit → length p ≡ pageSize γ
       → valid γ (changedMemory γ m g p) ≡ true
-  unfolding changedMemory
   changed-valid m v g p h l n =
       let m₁ = withCount m g (count m g + 1) in
       let r = count-set σ m (v .size) g (count m g + 1) (omega (arith, v .most)) (omega arith) in
       let v₁ = facts σ m₁ (valid-count σ m v g (count m g + 1) h (omega arith) (λ e. (omega arith, omega arith))) in
       let counted : count m₁ g ≡ count m g + 1 = r .count g (omega (arith, v .most)) ∙ count-changed (count m) g (count m g + 1) in
-      valid-holding σ m₁ v₁ g p (omega (arith, r .groups)) (omega arith) (omega arith) n
+      true-or-false (pageLeaves γ m g)
+      (λ e. ap (valid γ) (changed-leaving σ m g p e) ∙ valid-none σ m₁ v₁)
+      (λ e.
+      ap (valid γ) (changed-staying σ m g p e)
+      ∙ valid-holding σ m₁ v₁ g (nextUpdateCount γ m g) p (omega (arith, r .groups)) (omega arith) (omega arith) (next-some σ m g) (stays-few σ m g e) n)
 
   restarted-valid : (m : List ℕ) → Valid γ m → valid γ (restartedMemory γ m) ≡ true
   restarted-valid m v =
@@ -57,7 +62,7 @@ module _ {γ : Geometry} (σ : Proper γ) where
       let dropped = page-dropped σ m (v .size) in
       ap (valid γ) (restarted-held σ m n)
       ∙ valid-count σ (holdingNone γ m) (facts σ (holdingNone γ m) (valid-none σ m v)) (held γ m) (count m (held γ m) + 1)
-      (omega (arith, dropped .groups, v .group n)) (omega (arith, v .unexhausted n))
+      (omega (arith, dropped .groups, v .holds .group n)) (omega (arith, v .holds .unexhausted n))
       (λ e. absurd (n (sym e ∙ dropped .held))))
 
   salted-valid : (m s : List ℕ) → Valid γ m → length s ≡ saltSize → valid γ (salted γ m s) ≡ true
@@ -81,15 +86,11 @@ module _ {γ : Geometry} (σ : Proper γ) where
       let m = s .memory in
       let v = q .memory in
       let g = groupOf γ (c .block) in
-      let h = changed-group σ u s c x in
       let p = changedPage γ u c in
-      let n = changed-length σ u c (x .proof) in
-      let r = changed-reads σ m (v .size) g p (omega (arith, v .most)) (omega (arith, x .unexhausted)) n in
-      with-disk s (changedMemory γ m g p) (evict γ m g ++ putContent γ u (c .block) (c .content)) (changed-valid m v g p h (x .unexhausted) n) (r .groups)
-      (q .disk)
-      (each-append (Whole γ (groups γ m)) (evict γ m g) (putContent γ u (c .block) (c .content))
-      (each-evicted σ (Whole γ (groups γ m)) m g (put-whole σ m v))
-      (content-whole σ u (groups γ m) (c .block) (c .content) (q .content) (x .range)))
+      with-disk s (changedMemory γ m g p) (change γ u s c .stores)
+      (changed-valid m v g p (changed-group σ u s c x) (x .unexhausted) (changed-length σ u c (x .proof))) (change-reads σ u s c q x .groups) (q .disk)
+      (each-change σ (Whole γ (groups γ m)) u s c (put-whole σ m v)
+      (content-whole σ u (groups γ m) (c .block) (c .content) (q .content) (x .range)) (leaving-whole σ u s c q x))
 
   effect-valid : (k : Kind) (s : Box) (c : Command) → Passed γ k s c → ((u : Update) → k ≡ Change u → Changes γ u s c)
       → ValidBox γ (left γ s (effect γ k s c))

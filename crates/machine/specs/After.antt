@@ -1,5 +1,5 @@
--- What an accepted command does to the box, field by field: the last time, the salt, the counts, the held group, each group's current page and each
--- block's content. Each claim is a type; its proof has the claim's name in proofs/Theorems.antt.
+-- What an accepted command does to the box, field by field: the last time, the salt, the counts, the held group, its updates, each
+-- group's current page and each block's content. Each claim is a type; its proof has the claim's name in proofs/Theorems.antt.
 use mathlib.Core.Path.{_≡_}
 use mathlib.Core.Bool.{true, false}
 use mathlib.Core.List.{List, [], _∷_}
@@ -10,14 +10,14 @@ use Rattle.lockpage.specs.declared.Update.{Update}
 use Rattle.lockpage.specs.declared.Update.the-variants.{Write, Unfreeze, Increment}
 use Rattle.addressing.specs.Map.{groupOf, physical, pageBlock}
 use Rattle.disk.specs.Disk.{block}
-use Rattle.memory.specs.Memory.{salt, count, lastTime, groups, held, none, heldPage}
+use Rattle.memory.specs.Memory.{salt, count, lastTime, groups, held, none, mostUpdates, updateCount, heldPage}
 use Rattle.memory.specs.Claims.{changed}
 use Rattle.machine.specs.declared.Kind.{Kind}
 use Rattle.machine.specs.declared.Kind.the-variants.{Read, Entry, Page, Change, Sync, Restart, NewSalt, Identify, Unknown}
 use Rattle.machine.specs.Command.{Box, Command, kindOf, broughtPage}
 use Rattle.machine.specs.Tag.{currentPage}
 use Rattle.machine.specs.Question.{question7, HasYes}
-use Rattle.machine.specs.Effect.{store, change, changedPage}
+use Rattle.machine.specs.Effect.{store, nextUpdateCount, pageLeaves, change, changedPage}
 use Rattle.machine.specs.Step.{step, Accepted}
 
 -- the salt: a new one is the data
@@ -46,17 +46,29 @@ module _ (γ : Geometry) where
   countAfter Identify m c g = count m g
   countAfter Unknown m c g = count m g
 
-  -- the held group
+  -- the held group: an update's, unless its page leaves
   abbrev pub heldAfter : Kind → List ℕ → Command → ℕ
   heldAfter Read m c = held γ m
   heldAfter Entry m c = held γ m
   heldAfter Page m c = held γ m
-  heldAfter (Change u) m c = groupOf γ (c .block)
+  heldAfter (Change u) m c = elim (pageLeaves γ m (groupOf γ (c .block))) [ true ↦ none | false ↦ groupOf γ (c .block) ]
   heldAfter Sync m c = none
   heldAfter Restart m c = none
   heldAfter NewSalt m c = none
   heldAfter Identify m c = held γ m
   heldAfter Unknown m c = held γ m
+
+  -- document 02, Q-4: the updates of the held page, "0 when none is held"
+  abbrev pub updatesAfter : Kind → List ℕ → Command → ℕ
+  updatesAfter Read m c = updateCount γ m
+  updatesAfter Entry m c = updateCount γ m
+  updatesAfter Page m c = updateCount γ m
+  updatesAfter (Change u) m c = elim (pageLeaves γ m (groupOf γ (c .block))) [ true ↦ 0 | false ↦ nextUpdateCount γ m (groupOf γ (c .block)) ]
+  updatesAfter Sync m c = 0
+  updatesAfter Restart m c = 0
+  updatesAfter NewSalt m c = 0
+  updatesAfter Identify m c = updateCount γ m
+  updatesAfter Unknown m c = updateCount γ m
 
   -- the current page of group g: an update's own group has the changed page, and a restart falls back to the disk's
   abbrev pub pageAfter : Kind → Box → Command → ℕ → List ℕ
@@ -90,6 +102,7 @@ module _ (γ : Geometry) where
     pub new-salt : salt (step γ s c .box .memory) ≡ saltAfter (kindOf c) (s .memory) c
     pub counts : (g : ℕ) → g < groups γ (s .memory) → count (step γ s c .box .memory) g ≡ countAfter (kindOf c) (s .memory) c g
     pub held-group : held γ (step γ s c .box .memory) ≡ heldAfter (kindOf c) (s .memory) c
+    pub updates : updateCount γ (step γ s c .box .memory) ≡ updatesAfter (kindOf c) (s .memory) c
     pub page : (g : ℕ) → g < groups γ (s .memory) → currentPage γ (step γ s c .box) g ≡ pageAfter (kindOf c) s c g
     pub content : (a : ℕ) → block γ (step γ s c .box .disk) (physical γ a) ≡ contentAfter (kindOf c) (s .disk) c a
 
@@ -105,6 +118,12 @@ module _ (γ : Geometry) where
   HeldPageFirst = (s : Box) (c : Command) (lock : ℕ) → (held γ (s .memory) ≡ none → ⊥) → (held γ (s .memory) ≡ groupOf γ (c .block) → ⊥)
       → change γ (Write lock) s c .stores
       ≡ store (pageBlock γ (held γ (s .memory))) (heldPage γ (s .memory)) ∷ store (physical γ (c .block)) (c .content) ∷ []
+
+  -- "the page that leaves by itself": the 64th update of a held page stores its data, then the changed page
+  unfoldable pub LeavingPageLast : Type 0
+  LeavingPageLast = (s : Box) (c : Command) (lock : ℕ) → held γ (s .memory) ≡ groupOf γ (c .block) → updateCount γ (s .memory) ≡ mostUpdates
+      → change γ (Write lock) s c .stores
+      ≡ store (physical γ (c .block)) (c .content) ∷ store (pageBlock γ (groupOf γ (c .block))) (changedPage γ (Write lock) c) ∷ []
 
   -- ---- what kinds 3 to 6 answer serves the next update
 

@@ -139,7 +139,7 @@ module _ (γ : Geometry) where
     -- it gives a valid box with the salt and G, counts and last time 0 and none held; each block has the blank entry, with which it is
     -- free; and it "touches no data block"
     pub valid : format γ s g salt .number ≡ 0 → ValidBox (format γ s g salt .box)
-    pub reads : format γ s g salt .number ≡ 0 → Reads γ (format γ s g salt .box .memory) salt (λ k. 0) 0 g none (repeated (pageSize γ) 0)
+    pub reads : format γ s g salt .number ≡ 0 → Reads γ (format γ s g salt .box .memory) salt (λ k. 0) 0 g none 0 (repeated (pageSize γ) 0)
     pub blank : format γ s g salt .number ≡ 0 → (a : ℕ) → a < dataBlocks γ g
         → entryAt (currentPage γ (format γ s g salt .box) (groupOf γ a)) (placeOf γ a) ≡ blankEntry
     pub untouched : (a : ℕ) → block γ (format γ s g salt .box .disk) (physical γ a) ≡ block γ (s .disk) (physical γ a)

@@ -1,9 +1,9 @@
--- What an accepted command stores and answers, kind by kind, after document 01, "Commands". The box is the one that the command gets,
+-- What an accepted command stores and answers, kind by kind, after document 01, "Commands", and document 02, Q-4. The box is the one that the command gets,
 -- its last time set to now. Assumes nothing: these are definitions.
-use mathlib.Core.Bool.{true, false}
+use mathlib.Core.Bool.{Bool, true, false}
 use mathlib.Core.List.{List, [], _∷_, _++_}
 use Prim.Native.Nat.{ℕ, _+_}
-use lib.Dec.{eqb}
+use lib.Dec.{eqb, ltb}
 use Rattle.octets.specs.Number.{bytes}
 use Rattle.lockpage.specs.Geometry.{Geometry}
 use Rattle.lockpage.specs.Size.{entrySize}
@@ -16,7 +16,7 @@ use Rattle.lockpage.specs.Update.{updated}
 use Rattle.lockpage.specs.Page.{entryAt, withEntry}
 use Rattle.addressing.specs.Map.{dataBlocks, groupOf, placeOf, physical, pageBlock}
 use Rattle.disk.specs.Disk.{block, withBlock}
-use Rattle.memory.specs.Memory.{count, groups, held, none, heldPage, withSalt, withCount, withNoCounts, holding, holdingNone}
+use Rattle.memory.specs.Memory.{count, groups, held, none, mostUpdates, updateCount, heldPage, withSalt, withCount, withNoCounts, holding, holdingNone}
 use Rattle.machine.specs.declared.Kind.{Kind}
 use Rattle.machine.specs.declared.Kind.the-variants.{Read, Entry, Page, Change, Sync, Restart, NewSalt, Identify, Unknown}
 use Rattle.machine.specs.Command.{Box, Command, broughtPage}
@@ -85,7 +85,20 @@ module _ (γ : Geometry) where
   unfoldable pub evict : List ℕ → ℕ → List Store
   evict m g = elim (eqb (held γ m) g) [ true ↦ [] | false ↦ putHeld m ]
 
-  -- ---- kinds 4 to 6
+  -- ---- kinds 4 to 6: when the page leaves by itself
+
+  -- document 02, Q-4: "counts updates to the held page": the count with one more of group g, the first where g is not held
+  unfoldable pub nextUpdateCount : List ℕ → ℕ → ℕ
+  nextUpdateCount m g = elim (eqb (held γ m) g) [ true ↦ updateCount γ m + 1 | false ↦ 1 ]
+
+  -- "at the 64th update the page goes to the disk in the same command"
+  unfoldable pub pageLeaves : List ℕ → ℕ → Bool
+  pageLeaves m g = ltb mostUpdates (nextUpdateCount m g)
+
+  unfoldable pub putLeaving : List ℕ → ℕ → List ℕ → List Store
+  putLeaving m g p = elim (pageLeaves m g) [ true ↦ store (pageBlock γ g) p ∷ [] | false ↦ [] ]
+
+  -- ---- kinds 4 to 6: the update
 
   -- "A write stores its data."
   unfoldable pub putContent : Update → ℕ → List ℕ → List Store
@@ -101,17 +114,19 @@ module _ (γ : Geometry) where
   abbrev pub changedPage : Update → Command → List ℕ
   changedPage u c = updatedPage u (broughtPage γ (c .proof)) (c .block) (c .now)
 
-  -- "The changed page becomes the held one, its group's count rises by 1"
+  -- "The changed page becomes the held one, its group's count rises by 1"; a page that leaves is held no more, "as by a sync"
   unfoldable pub changedMemory : List ℕ → ℕ → List ℕ → List ℕ
-  changedMemory m g p = holding γ (withCount m g (count m g + 1)) g p
+  changedMemory m g p =
+      let n = withCount m g (count m g + 1) in
+      elim (pageLeaves m g) [ true ↦ holdingNone γ n | false ↦ holding γ n g (nextUpdateCount m g) p ]
 
-  -- "and the answer is that page with its new tag"
+  -- "and the answer is that page with its new tag"; document 02, Q-4: it goes to the disk "after any data"
   unfoldable pub change : Update → Box → Command → Effect
   change u s c =
       let g = groupOf γ (c .block) in
       let p = changedPage u c in
       let m = changedMemory (s .memory) g p in
-      effectOf (evict (s .memory) g ++ putContent u (c .block) (c .content)) m (tagged γ m g p)
+      effectOf (evict (s .memory) g ++ (putContent u (c .block) (c .content) ++ putLeaving (s .memory) g p)) m (tagged γ m g p)
 
   -- ---- kinds 7 to 10
 

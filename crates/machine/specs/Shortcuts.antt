@@ -8,6 +8,7 @@ use Rattle.lockpage.specs.Geometry.{Geometry}
 use Rattle.lockpage.specs.declared.Update.{Update}
 use Rattle.lockpage.specs.Entry.{flag, unfrozenFlag}
 use Rattle.addressing.specs.Map.{groupData, groupOf, physical, pageBlock}
+use Rattle.memory.specs.Memory.{held}
 use Rattle.blake3.specs.Blake3.{digest}
 use Rattle.machine.specs.declared.Kind.the-variants.{Change}
 use Rattle.machine.specs.Command.{Box, Command, kindOf, broughtPage, broughtEntry}
@@ -45,11 +46,13 @@ module _ (γ : Geometry) where
       → TagsDiffer (s .memory) (run γ (step γ s c .box) es .memory) (groupOf γ (c .block)) (broughtPage γ (c .proof))
       → RefusedBy γ 7 (run γ (step γ s c .box) es) d
 
-  -- "A restart that keeps the count, so the server's copy of the lost page still matches": after an accepted update c, a restart r, and
-  -- any events but a new salt, an update d that brings what c answered is refused
+  -- "A restart that keeps the count, so the server's copy of the lost page still matches": after an accepted update c whose page is
+  -- held, a restart r, and any events but a new salt, an update d that brings what c answered is refused. A page that left by itself is
+  -- not lost (document 02, Q-4): see Leaving.antt
   unfoldable pub LostPageRefused : Type 0
   LostPageRefused = (s : Box) (c r : Command) (es : List Event) (d : Command) (u v : Update) → kindOf c ≡ Change u → r .kind ≡ 8
-      → kindOf d ≡ Change v → Accepted γ s c → Accepted γ (step γ s c .box) r → Throughout γ SaltStays (step γ (step γ s c .box) r .box) es
+      → kindOf d ≡ Change v → Accepted γ s c → held γ (step γ s c .box .memory) ≡ groupOf γ (c .block) → Accepted γ (step γ s c .box) r
+      → Throughout γ SaltStays (step γ (step γ s c .box) r .box) es
       → groupOf γ (d .block) ≡ groupOf γ (c .block) → d .proof ≡ step γ s c .answer
       → TagsDiffer (step γ s c .box .memory) (run γ (step γ (step γ s c .box) r .box) es .memory) (groupOf γ (c .block))
       (broughtPage γ (step γ s c .answer))

@@ -1,6 +1,6 @@
 -- Laws of the fields of the memory: what each reads after each is replaced. A change lies in the front, below the last time, or in the
 -- back: what lies in the other half is kept as a whole. Assumes nothing.
-use mathlib.Core.Path.{_≡_, refl, ap, sym, _∙_}
+use mathlib.Core.Path.{_≡_, refl, ap, _∙_}
 use mathlib.Core.Bool.{Bool, true, false}
 use mathlib.Core.Logic.{_⊎_, inl, inr}
 use mathlib.Core.List.{List}
@@ -14,14 +14,14 @@ use Rattle.octets.specs.Number.{number, bytes, numberAt, withNumber}
 use Rattle.octets.proofs.OrderLaw.{apart}
 use Rattle.octets.proofs.PartLaw.{part-length}
 use Rattle.octets.proofs.RepeatedLaw.{repeated-length, repeated-part}
-use Rattle.octets.proofs.ReplacedLaw.{replaced-length, part-same, part-other, part-within, replaced-again}
+use Rattle.octets.proofs.ReplacedLaw.{replaced-length, part-same, part-other, part-within}
 use Rattle.octets.proofs.NumberLaw.{bytes-length, numberAt-same, numberAt-other, numberAt-zeros}
 use Rattle.lockpage.specs.Geometry.{Geometry, Proper}
 use Rattle.lockpage.specs.Size.{pageSize}
 use Rattle.memory.specs.Layout.{memorySize, saltStart, saltSize, countsStart, countSize, countStart, timeStart, timeSize, groupsStart, heldStart}
-use Rattle.memory.specs.Layout.{byteSize, reservedStart, reservedSize, pageStart}
-use Rattle.memory.specs.Memory.{salt, count, lastTime, groups, held, none, heldPage, withSalt, withCount, withNoCounts, withLastTime, withGroups}
-use Rattle.memory.specs.Memory.{withHeld, withHeldPage, holding, holdingNone}
+use Rattle.memory.specs.Layout.{updateCountStart, byteSize, reservedStart, reservedSize, pageStart}
+use Rattle.memory.specs.Memory.{salt, count, lastTime, groups, held, none, updateCount, heldPage, withSalt, withCount, withNoCounts, withLastTime}
+use Rattle.memory.specs.Memory.{withGroups, withHeld, withUpdateCount, withHeldPage, holding, holdingNone}
 use Rattle.memory.specs.Claims.{Reads, changed}
 
 -- γ is the box's geometry
@@ -31,7 +31,7 @@ module _ (γ : Geometry) where
     pub size : length n ≡ length m
     pub back : (f k : ℕ) → timeStart γ ≤ f → part n f k ≡ part m f k
 
-  -- a change from the last time on: all below is the same, and the two bytes that are 0
+  -- a change from the last time on: all below is the same, and the byte that is 0
   pub record InBack (m n : List ℕ) : Type 0 where
     pub size : length n ≡ length m
     pub front : (f k : ℕ) → f + k ≤ timeStart γ → part n f k ≡ part m f k
@@ -118,15 +118,24 @@ module _ {γ : Geometry} (σ : Proper γ) where
         let digits = bytes-length byteSize g in
         in-back m (heldStart γ) (bytes byteSize g) size (omega arith) (omega arith) (inl (omega arith))
 
+    pub updates-in : (n : ℕ) → InBack γ m (withUpdateCount γ m n)
+    unfolding withUpdateCount withNumber
+    updates-in n =
+        let digits = bytes-length byteSize n in
+        in-back m (updateCountStart γ) (bytes byteSize n) size (omega arith) (omega arith) (inl (omega arith))
+
     pub page-in : (p : List ℕ) → length p ≡ pageSize γ → InBack γ m (withHeldPage γ m p)
     unfolding withHeldPage
     page-in p l = in-back m (pageStart γ) p size (omega arith) (omega arith) (inr (omega arith))
 
-  pub holding-in : (m : List ℕ) → length m ≡ memorySize γ → (g : ℕ) (p : List ℕ) → length p ≡ pageSize γ → InBack γ m (holding γ m g p)
+  pub holding-in : (m : List ℕ) → length m ≡ memorySize γ → (g n : ℕ) (p : List ℕ) → length p ≡ pageSize γ → InBack γ m (holding γ m g n p)
   unfolding holding
-  holding-in m size g p l =
+  holding-in m size g n p l =
+      let grouped : List ℕ = withHeld γ m g in
+      let counted : List ℕ = withUpdateCount γ grouped n in
       let first = held-in m size g in
-      in-back-twice m (withHeld γ m g) (withHeldPage γ (withHeld γ m g) p) first (page-in (withHeld γ m g) (first .size ∙ size) p l)
+      let second = in-back-twice m grouped counted first (updates-in grouped (first .size ∙ size) n) in
+      in-back-twice m counted (withHeldPage γ counted p) second (page-in counted (second .size ∙ size) p l)
 
   -- ---- the fields that are lists
 
@@ -143,8 +152,8 @@ module _ {γ : Geometry} (σ : Proper γ) where
   module _ (m n : List ℕ) (size : length m ≡ memorySize γ) where
     -- a change in the front sets the salt or the counts
     front-reads : (s : List ℕ) (c : ℕ → ℕ) → InFront γ m n → salt n ≡ s → ((k : ℕ) → k < γ .mostGroups → count n k ≡ c k)
-        → Reads γ n s c (lastTime γ m) (groups γ m) (held γ m) (heldPage γ m)
-    unfolding lastTime groups held heldPage numberAt
+        → Reads γ n s c (lastTime γ m) (groups γ m) (held γ m) (updateCount γ m) (heldPage γ m)
+    unfolding lastTime groups held updateCount heldPage numberAt
     front-reads s c i es ec =
         record {
           size = i .size ∙ size;
@@ -153,14 +162,15 @@ module _ {γ : Geometry} (σ : Proper γ) where
           time = ap number (i .back (timeStart γ) timeSize (omega arith));
           groups = ap number (i .back (groupsStart γ) byteSize (omega arith));
           held = ap number (i .back (heldStart γ) byteSize (omega arith));
+          updates = ap number (i .back (updateCountStart γ) byteSize (omega arith));
           page = i .back (pageStart γ) (pageSize γ) (omega arith);
         }
 
-    -- a change in the back sets the time, the groups, the held group or the page
-    back-reads : (t g h : ℕ) (p : List ℕ) → InBack γ m n → lastTime γ n ≡ t → groups γ n ≡ g → held γ n ≡ h → heldPage γ n ≡ p
-        → Reads γ n (salt m) (count m) t g h p
+    -- a change in the back sets the time, the groups, the held group, the count of its updates or the page
+    back-reads : (t g h k : ℕ) (p : List ℕ) → InBack γ m n → lastTime γ n ≡ t → groups γ n ≡ g → held γ n ≡ h → updateCount γ n ≡ k
+        → heldPage γ n ≡ p → Reads γ n (salt m) (count m) t g h k p
     unfolding salt count numberAt
-    back-reads t g h p i et eg eh ep =
+    back-reads t g h k p i et eg eh ek ep =
         record {
           size = i .size ∙ size;
           salt = i .front saltStart saltSize (omega arith);
@@ -168,6 +178,7 @@ module _ {γ : Geometry} (σ : Proper γ) where
           time = et;
           groups = eg;
           held = eh;
+          updates = ek;
           page = ep;
         }
 
@@ -191,7 +202,8 @@ module _ {γ : Geometry} (σ : Proper γ) where
           numberAt-other m (countStart g) countSize n (countStart k) countSize (omega arith) (sides (apart k g (eqb-false k g e)))
 
   module _ (m : List ℕ) (size : length m ≡ memorySize γ) where
-    pub salt-set : (s : List ℕ) → length s ≡ saltSize → Reads γ (withSalt m s) s (count m) (lastTime γ m) (groups γ m) (held γ m) (heldPage γ m)
+    pub salt-set : (s : List ℕ) → length s ≡ saltSize
+        → Reads γ (withSalt m s) s (count m) (lastTime γ m) (groups γ m) (held γ m) (updateCount γ m) (heldPage γ m)
     unfolding withSalt salt count numberAt
     salt-set s l =
         front-reads m (withSalt m s) size s (count m) (salt-in m size s l)
@@ -199,7 +211,7 @@ module _ {γ : Geometry} (σ : Proper γ) where
         (λ k h. ap number (salt-rest m size s l (countStart k) countSize (omega arith)))
 
     pub count-set : (g n : ℕ) → g < γ .mostGroups → n < 256 ^ countSize
-        → Reads γ (withCount m g n) (salt m) (changed (count m) g n) (lastTime γ m) (groups γ m) (held γ m) (heldPage γ m)
+        → Reads γ (withCount m g n) (salt m) (changed (count m) g n) (lastTime γ m) (groups γ m) (held γ m) (updateCount γ m) (heldPage γ m)
     unfolding withCount withNumber salt
     count-set g n h s =
         let digits = bytes-length countSize n in
@@ -216,7 +228,7 @@ module _ {γ : Geometry} (σ : Proper γ) where
         part-within m countsStart (repeated (timeStart γ - countsStart) 0) (countSize * g) (timeStart γ - countStart g) (omega arith) (omega arith)
         ∙ repeated-part (timeStart γ - countsStart) 0 (countSize * g) (timeStart γ - countStart g) (omega arith)
 
-    pub counts-cleared : Reads γ (withNoCounts γ m) (salt m) (λ k. 0) (lastTime γ m) (groups γ m) (held γ m) (heldPage γ m)
+    pub counts-cleared : Reads γ (withNoCounts γ m) (salt m) (λ k. 0) (lastTime γ m) (groups γ m) (held γ m) (updateCount γ m) (heldPage γ m)
     unfolding withNoCounts salt count
     counts-cleared =
         let zeros = repeated-length (timeStart γ - countsStart) 0 in
@@ -227,68 +239,82 @@ module _ {γ : Geometry} (σ : Proper γ) where
         (part-within m countsStart (repeated (timeStart γ - countsStart) 0) (countSize * k) countSize (omega arith) (omega arith)
         ∙ repeated-part (timeStart γ - countsStart) 0 (countSize * k) countSize (omega arith)))
 
-    pub time-set : (t : ℕ) → t < 256 ^ timeSize → Reads γ (withLastTime γ m t) (salt m) (count m) t (groups γ m) (held γ m) (heldPage γ m)
-    unfolding withLastTime withNumber lastTime groups held heldPage numberAt
+    pub time-set : (t : ℕ) → t < 256 ^ timeSize
+        → Reads γ (withLastTime γ m t) (salt m) (count m) t (groups γ m) (held γ m) (updateCount γ m) (heldPage γ m)
+    unfolding withLastTime withNumber lastTime groups held updateCount heldPage numberAt
     time-set t s =
         let digits = bytes-length timeSize t in
-        back-reads m (withLastTime γ m t) size t (groups γ m) (held γ m) (heldPage γ m) (time-in m size t)
+        back-reads m (withLastTime γ m t) size t (groups γ m) (held γ m) (updateCount γ m) (heldPage γ m) (time-in m size t)
         (numberAt-same m (timeStart γ) timeSize t (omega arith) s)
         (numberAt-other m (timeStart γ) timeSize t (groupsStart γ) byteSize (omega arith) (inr (omega arith)))
         (numberAt-other m (timeStart γ) timeSize t (heldStart γ) byteSize (omega arith) (inr (omega arith)))
+        (numberAt-other m (timeStart γ) timeSize t (updateCountStart γ) byteSize (omega arith) (inr (omega arith)))
         (part-other m (timeStart γ) (bytes timeSize t) (pageStart γ) (pageSize γ) (omega arith) (inr (omega arith)))
 
-    pub groups-set : (g : ℕ) → g < 256 → Reads γ (withGroups γ m g) (salt m) (count m) (lastTime γ m) g (held γ m) (heldPage γ m)
-    unfolding withGroups withNumber lastTime groups held heldPage numberAt
+    pub groups-set : (g : ℕ) → g < 256 → Reads γ (withGroups γ m g) (salt m) (count m) (lastTime γ m) g (held γ m) (updateCount γ m) (heldPage γ m)
+    unfolding withGroups withNumber lastTime groups held updateCount heldPage numberAt
     groups-set g s =
         let digits = bytes-length byteSize g in
-        back-reads m (withGroups γ m g) size (lastTime γ m) g (held γ m) (heldPage γ m) (groups-in m size g)
+        back-reads m (withGroups γ m g) size (lastTime γ m) g (held γ m) (updateCount γ m) (heldPage γ m) (groups-in m size g)
         (numberAt-other m (groupsStart γ) byteSize g (timeStart γ) timeSize (omega arith) (inl (omega arith)))
         (numberAt-same m (groupsStart γ) byteSize g (omega arith) (omega arith))
         (numberAt-other m (groupsStart γ) byteSize g (heldStart γ) byteSize (omega arith) (inr (omega arith)))
+        (numberAt-other m (groupsStart γ) byteSize g (updateCountStart γ) byteSize (omega arith) (inr (omega arith)))
         (part-other m (groupsStart γ) (bytes byteSize g) (pageStart γ) (pageSize γ) (omega arith) (inr (omega arith)))
 
-    pub held-set : (g : ℕ) → g < 256 → Reads γ (withHeld γ m g) (salt m) (count m) (lastTime γ m) (groups γ m) g (heldPage γ m)
-    unfolding withHeld withNumber lastTime groups held heldPage numberAt
+    pub held-set : (g : ℕ) → g < 256 → Reads γ (withHeld γ m g) (salt m) (count m) (lastTime γ m) (groups γ m) g (updateCount γ m) (heldPage γ m)
+    unfolding withHeld withNumber lastTime groups held updateCount heldPage numberAt
     held-set g s =
         let digits = bytes-length byteSize g in
-        back-reads m (withHeld γ m g) size (lastTime γ m) (groups γ m) g (heldPage γ m) (held-in m size g)
+        back-reads m (withHeld γ m g) size (lastTime γ m) (groups γ m) g (updateCount γ m) (heldPage γ m) (held-in m size g)
         (numberAt-other m (heldStart γ) byteSize g (timeStart γ) timeSize (omega arith) (inl (omega arith)))
         (numberAt-other m (heldStart γ) byteSize g (groupsStart γ) byteSize (omega arith) (inl (omega arith)))
         (numberAt-same m (heldStart γ) byteSize g (omega arith) (omega arith))
+        (numberAt-other m (heldStart γ) byteSize g (updateCountStart γ) byteSize (omega arith) (inr (omega arith)))
         (part-other m (heldStart γ) (bytes byteSize g) (pageStart γ) (pageSize γ) (omega arith) (inr (omega arith)))
 
-    pub page-set : (p : List ℕ) → length p ≡ pageSize γ → Reads γ (withHeldPage γ m p) (salt m) (count m) (lastTime γ m) (groups γ m) (held γ m) p
-    unfolding withHeldPage lastTime groups held heldPage numberAt
+    pub updates-set : (n : ℕ) → n < 256
+        → Reads γ (withUpdateCount γ m n) (salt m) (count m) (lastTime γ m) (groups γ m) (held γ m) n (heldPage γ m)
+    unfolding withUpdateCount withNumber lastTime groups held updateCount heldPage numberAt
+    updates-set n s =
+        let digits = bytes-length byteSize n in
+        back-reads m (withUpdateCount γ m n) size (lastTime γ m) (groups γ m) (held γ m) n (heldPage γ m) (updates-in m size n)
+        (numberAt-other m (updateCountStart γ) byteSize n (timeStart γ) timeSize (omega arith) (inl (omega arith)))
+        (numberAt-other m (updateCountStart γ) byteSize n (groupsStart γ) byteSize (omega arith) (inl (omega arith)))
+        (numberAt-other m (updateCountStart γ) byteSize n (heldStart γ) byteSize (omega arith) (inl (omega arith)))
+        (numberAt-same m (updateCountStart γ) byteSize n (omega arith) (omega arith))
+        (part-other m (updateCountStart γ) (bytes byteSize n) (pageStart γ) (pageSize γ) (omega arith) (inr (omega arith)))
+
+    pub page-set : (p : List ℕ) → length p ≡ pageSize γ
+        → Reads γ (withHeldPage γ m p) (salt m) (count m) (lastTime γ m) (groups γ m) (held γ m) (updateCount γ m) p
+    unfolding withHeldPage lastTime groups held updateCount heldPage numberAt
     page-set p l =
-        back-reads m (withHeldPage γ m p) size (lastTime γ m) (groups γ m) (held γ m) p (page-in m size p l)
+        back-reads m (withHeldPage γ m p) size (lastTime γ m) (groups γ m) (held γ m) (updateCount γ m) p (page-in m size p l)
         (ap number (part-other m (pageStart γ) p (timeStart γ) timeSize (omega arith) (inl (omega arith))))
         (ap number (part-other m (pageStart γ) p (groupsStart γ) byteSize (omega arith) (inl (omega arith))))
         (ap number (part-other m (pageStart γ) p (heldStart γ) byteSize (omega arith) (inl (omega arith))))
+        (ap number (part-other m (pageStart γ) p (updateCountStart γ) byteSize (omega arith) (inl (omega arith))))
         (part-same m (pageStart γ) p (pageSize γ) l (omega arith))
 
-  pub page-held : (m : List ℕ) → length m ≡ memorySize γ → (g : ℕ) (p : List ℕ) → g < 256 → length p ≡ pageSize γ
-      → Reads γ (holding γ m g p) (salt m) (count m) (lastTime γ m) (groups γ m) g p
+  pub page-held : (m : List ℕ) → length m ≡ memorySize γ → (g n : ℕ) (p : List ℕ) → g < 256 → n < 256 → length p ≡ pageSize γ
+      → Reads γ (holding γ m g n p) (salt m) (count m) (lastTime γ m) (groups γ m) g n p
   unfolding holding
-  page-held m size g p s l =
-      let a = held-set m size g s in
-      let b = page-set (withHeld γ m g) (a .size) p l in
+  page-held m size g n p sg sn l =
+      let a = held-set m size g sg in
+      let b = updates-set (withHeld γ m g) (a .size) n sn in
+      let c = page-set (withUpdateCount γ (withHeld γ m g) n) (b .size) p l in
       record {
-        size = b .size;
-        salt = b .salt ∙ a .salt;
-        count = λ k h. b .count k h ∙ a .count k h;
-        time = b .time ∙ a .time;
-        groups = b .groups ∙ a .groups;
-        held = b .held ∙ a .held;
-        page = b .page;
+        size = c .size;
+        salt = c .salt ∙ b .salt ∙ a .salt;
+        count = λ k h. c .count k h ∙ b .count k h ∙ a .count k h;
+        time = c .time ∙ b .time ∙ a .time;
+        groups = c .groups ∙ b .groups ∙ a .groups;
+        held = c .held ∙ b .held ∙ a .held;
+        updates = c .updates ∙ b .updates;
+        page = c .page;
       }
 
   pub page-dropped : (m : List ℕ) → length m ≡ memorySize γ
-      → Reads γ (holdingNone γ m) (salt m) (count m) (lastTime γ m) (groups γ m) none (repeated (pageSize γ) 0)
+      → Reads γ (holdingNone γ m) (salt m) (count m) (lastTime γ m) (groups γ m) none 0 (repeated (pageSize γ) 0)
   unfolding holdingNone
-  page-dropped m size = page-held m size none (repeated (pageSize γ) 0) (omega arith) (repeated-length (pageSize γ) 0)
-
-  -- another page in the held one's place
-  pub holding-again : (m : List ℕ) → length m ≡ memorySize γ → (g : ℕ) (p q : List ℕ) → length p ≡ pageSize γ → length q ≡ pageSize γ
-      → withHeldPage γ (holding γ m g p) q ≡ holding γ m g q
-  unfolding holding withHeldPage
-  holding-again m l g p q lp lq = replaced-again (withHeld γ m g) (pageStart γ) p q (lp ∙ sym lq) (omega (arith, held-in m l g .size))
+  page-dropped m size = page-held m size none 0 (repeated (pageSize γ) 0) (omega arith) (omega arith) (repeated-length (pageSize γ) 0)

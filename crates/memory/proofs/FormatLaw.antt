@@ -9,8 +9,9 @@ use Rattle.octets.proofs.RepeatedLaw.{repeated-length, repeated-part}
 use Rattle.octets.proofs.NumberLaw.{numberAt-zeros}
 use Rattle.lockpage.specs.Geometry.{Geometry, Proper}
 use Rattle.lockpage.specs.Size.{pageSize}
-use Rattle.memory.specs.Layout.{memorySize, saltSize, countStart, countSize, timeStart, timeSize, reservedStart, reservedSize, pageStart}
-use Rattle.memory.specs.Memory.{count, lastTime, none, heldPage, withSalt, withGroups, formattedMemory}
+use Rattle.memory.specs.Layout.{memorySize, saltSize, countStart, countSize, timeStart, timeSize, updateCountStart, byteSize, reservedStart, reservedSize}
+use Rattle.memory.specs.Layout.{pageStart}
+use Rattle.memory.specs.Memory.{count, lastTime, none, updateCount, heldPage, withSalt, withGroups, formattedMemory}
 use Rattle.memory.specs.Claims.{Reads}
 use Rattle.memory.proofs.FieldLaw.{salt-in, salt-rest, groups-in, held-in, salt-set, groups-set, held-set}
 
@@ -29,8 +30,8 @@ module _ {γ : Geometry} (σ : Proper γ) where
   blank-part at k h = repeated-part (memorySize γ) 0 at k h
 
   module _ (g : ℕ) (s : List ℕ) (small : g < 256) (size : length s ≡ saltSize) where
-    pub formatted-reads : Reads γ (formattedMemory γ g s) s (λ k. 0) 0 g none (repeated (pageSize γ) 0)
-    unfolding formattedMemory blank count lastTime heldPage
+    pub formatted-reads : Reads γ (formattedMemory γ g s) s (λ k. 0) 0 g none 0 (repeated (pageSize γ) 0)
+    unfolding formattedMemory blank count lastTime updateCount heldPage
     formatted-reads =
         let a = salt-set σ blank blank-size s size in
         let b = groups-set σ (withSalt blank s) (a .size) g small in
@@ -45,10 +46,13 @@ module _ {γ : Geometry} (σ : Proper γ) where
           time = c .time ∙ b .time ∙ a .time ∙ numberAt-zeros blank (timeStart γ) timeSize (blank-part (timeStart γ) timeSize (omega arith));
           groups = c .groups ∙ b .groups;
           held = c .held;
+          updates =
+              c .updates ∙ b .updates ∙ a .updates
+              ∙ numberAt-zeros blank (updateCountStart γ) byteSize (blank-part (updateCountStart γ) byteSize (omega arith));
           page = c .page ∙ b .page ∙ a .page ∙ blank-part (pageStart γ) (pageSize γ) (omega arith);
         }
 
-  -- its counts from group g on, and the two bytes that are 0, are zeros
+  -- its counts from group g on, and the byte that is 0, are zeros
   pub formatted-zeros : (g : ℕ) (s : List ℕ) → length s ≡ saltSize → g ≤ γ .mostGroups
       → (part (formattedMemory γ g s) (countStart g) (timeStart γ - countStart g) ≡ repeated (timeStart γ - countStart g) 0)
       × (part (formattedMemory γ g s) (reservedStart γ) reservedSize ≡ repeated reservedSize 0)

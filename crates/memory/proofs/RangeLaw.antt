@@ -8,10 +8,10 @@ use Rattle.octets.proofs.RepeatedLaw.{repeated-below}
 use Rattle.octets.proofs.NumberLaw.{withNumber-are, numberAt-small}
 use Rattle.lockpage.specs.Geometry.{Geometry, Proper}
 use Rattle.lockpage.specs.Size.{pageSize}
-use Rattle.memory.specs.Layout.{memorySize, saltStart, countsStart, countSize, timeStart, timeSize, groupsStart, heldStart}
-use Rattle.memory.specs.Layout.{byteSize, pageStart}
-use Rattle.memory.specs.Memory.{groups, none, heldPage, withSalt, withCount, withNoCounts, withLastTime, withGroups}
-use Rattle.memory.specs.Memory.{withHeld, withHeldPage, holding, holdingNone, formattedMemory}
+use Rattle.memory.specs.Layout.{memorySize, saltStart, countsStart, countSize, timeStart, timeSize, groupsStart, heldStart, updateCountStart, byteSize}
+use Rattle.memory.specs.Layout.{pageStart}
+use Rattle.memory.specs.Memory.{groups, none, heldPage, withSalt, withCount, withNoCounts, withLastTime, withGroups, withHeld, withUpdateCount}
+use Rattle.memory.specs.Memory.{withHeldPage, holding, holdingNone, formattedMemory}
 
 -- γ is any proper geometry
 module _ {γ : Geometry} (σ : Proper γ) where
@@ -53,17 +53,22 @@ module _ {γ : Geometry} (σ : Proper γ) where
     unfolding withHeld
     withHeld-bytes g = withNumber-are m (heldStart γ) byteSize g b
 
+    pub withUpdateCount-bytes : (n : ℕ) → AreBytes (withUpdateCount γ m n)
+    unfolding withUpdateCount
+    withUpdateCount-bytes n = withNumber-are m (updateCountStart γ) byteSize n b
+
     pub withHeldPage-bytes : (p : List ℕ) → AreBytes p → AreBytes (withHeldPage γ m p)
     unfolding withHeldPage
     withHeldPage-bytes p c = below-replaced 256 m (pageStart γ) p b c
 
-  pub holding-bytes : (m : List ℕ) → AreBytes m → (g : ℕ) (p : List ℕ) → AreBytes p → AreBytes (holding γ m g p)
+  pub holding-bytes : (m : List ℕ) → AreBytes m → (g n : ℕ) (p : List ℕ) → AreBytes p → AreBytes (holding γ m g n p)
   unfolding holding
-  holding-bytes m b g p c = withHeldPage-bytes (withHeld γ m g) (withHeld-bytes m b g) p c
+  holding-bytes m b g n p c =
+      withHeldPage-bytes (withUpdateCount γ (withHeld γ m g) n) (withUpdateCount-bytes (withHeld γ m g) (withHeld-bytes m b g) n) p c
 
   pub holdingNone-bytes : (m : List ℕ) → AreBytes m → AreBytes (holdingNone γ m)
   unfolding holdingNone
-  holdingNone-bytes m b = holding-bytes m b none (repeated (pageSize γ) 0) (repeated-below 256 (pageSize γ) 0 (omega arith))
+  holdingNone-bytes m b = holding-bytes m b none 0 (repeated (pageSize γ) 0) (repeated-below 256 (pageSize γ) 0 (omega arith))
 
   pub formatted-bytes : (g : ℕ) (s : List ℕ) → AreBytes s → AreBytes (formattedMemory γ g s)
   unfolding formattedMemory

@@ -2,7 +2,7 @@
 use mathlib.Core.Path.{refl}
 use Rattle.lockpage.specs.Geometry.{Geometry, Proper}
 use Rattle.memory.specs.Claims.{PapersPlaces, GetAfterSet, FormattedReads}
-use Rattle.memory.proofs.FieldLaw.{salt-set, count-set, counts-cleared, time-set, groups-set, held-set, page-set, page-held, page-dropped}
+use Rattle.memory.proofs.FieldLaw.{salt-set, count-set, counts-cleared, time-set, groups-set, held-set, updates-set, page-set, page-held, page-dropped}
 use Rattle.memory.proofs.FormatLaw as F
 
 pub papers-places : PapersPlaces
@@ -13,6 +13,7 @@ papers-places =
       time-at = (refl, refl);
       groups-at = refl;
       held-at = refl;
+      update-count-at = refl;
       reserved-at = (refl, refl);
       page-at = (refl, refl);
     }
@@ -29,6 +30,7 @@ module _ {γ : Geometry} (σ : Proper γ) where
         time-set = time-set σ m size;
         groups-set = groups-set σ m size;
         held-set = held-set σ m size;
+        updates-set = updates-set σ m size;
         page-set = page-set σ m size;
         page-held = page-held σ m size;
         page-dropped = page-dropped σ m size;

@@ -8,22 +8,23 @@ use lib.Dec.{eqb}
 use Rattle.octets.specs.Part.{repeated}
 use Rattle.lockpage.specs.Geometry.{Geometry, base}
 use Rattle.lockpage.specs.Size.{pageSize}
-use Rattle.memory.specs.Layout.{memorySize, saltStart, saltSize, countSize, countStart, timeStart, timeSize, groupsStart, heldStart, reservedStart}
-use Rattle.memory.specs.Layout.{reservedSize, pageStart}
-use Rattle.memory.specs.Memory.{salt, count, lastTime, groups, held, none, heldPage, withSalt, withCount, withNoCounts, withLastTime, withGroups}
-use Rattle.memory.specs.Memory.{withHeld, withHeldPage, holding, holdingNone, formattedMemory}
+use Rattle.memory.specs.Layout.{memorySize, saltStart, saltSize, countSize, countStart, timeStart, timeSize, groupsStart, heldStart, updateCountStart}
+use Rattle.memory.specs.Layout.{reservedStart, reservedSize, pageStart}
+use Rattle.memory.specs.Memory.{salt, count, lastTime, groups, held, none, updateCount, heldPage, withSalt, withCount, withNoCounts, withLastTime}
+use Rattle.memory.specs.Memory.{withGroups, withHeld, withUpdateCount, withHeldPage, holding, holdingNone, formattedMemory}
 
 -- ---- document 01's places
 
 -- "0..31 salt; 32..95 sixteen 4-byte freshness counts; 96..99 last time; 100 G; 101 held group or 255; 102, 103 zero; 104..615 held
--- page"
+-- page"; document 02, Q-4: "Byte 102 of the memory now counts updates to the held page"
 pub record PapersPlaces : Type 0 where
   pub salt-at : (saltStart ≡ 0) × (saltStart + saltSize ≡ 32)
   pub counts-at : (countStart 0 ≡ 32) × (countStart (base .mostGroups) ≡ 96)
   pub time-at : (timeStart base ≡ 96) × (timeStart base + timeSize ≡ 100)
   pub groups-at : groupsStart base ≡ 100
   pub held-at : heldStart base ≡ 101
-  pub reserved-at : (reservedStart base ≡ 102) × (reservedStart base + reservedSize ≡ 104)
+  pub update-count-at : updateCountStart base ≡ 102
+  pub reserved-at : (reservedStart base ≡ 103) × (reservedStart base + reservedSize ≡ 104)
   pub page-at : (pageStart base ≡ 104) × (pageStart base + pageSize base ≡ 616)
 
 -- ---- get after set: what each field reads
@@ -34,28 +35,32 @@ changed c g n k = elim (eqb k g) [ true ↦ n | false ↦ c k ]
 
 -- γ is the box's geometry
 module _ (γ : Geometry) where
-  pub record Reads (m s : List ℕ) (c : ℕ → ℕ) (t g h : ℕ) (p : List ℕ) : Type 0 where
+  pub record Reads (m s : List ℕ) (c : ℕ → ℕ) (t g h n : ℕ) (p : List ℕ) : Type 0 where
     pub size : length m ≡ memorySize γ
     pub salt : salt m ≡ s
     pub count : (k : ℕ) → k < γ .mostGroups → count m k ≡ c k
     pub time : lastTime γ m ≡ t
     pub groups : groups γ m ≡ g
     pub held : held γ m ≡ h
+    pub updates : updateCount γ m ≡ n
     pub page : heldPage γ m ≡ p
 
   -- each change sets its own field and leaves the others
   pub record Sets (m : List ℕ) : Type 0 where
-    pub salt-set : (s : List ℕ) → length s ≡ saltSize → Reads (withSalt m s) s (count m) (lastTime γ m) (groups γ m) (held γ m) (heldPage γ m)
+    pub salt-set : (s : List ℕ) → length s ≡ saltSize → Reads (withSalt m s) s (count m) (lastTime γ m) (groups γ m) (held γ m) (updateCount γ m) (heldPage γ m)
     pub count-set : (g n : ℕ) → g < γ .mostGroups → n < 256 ^ countSize
-        → Reads (withCount m g n) (salt m) (changed (count m) g n) (lastTime γ m) (groups γ m) (held γ m) (heldPage γ m)
-    pub counts-cleared : Reads (withNoCounts γ m) (salt m) (λ k. 0) (lastTime γ m) (groups γ m) (held γ m) (heldPage γ m)
-    pub time-set : (t : ℕ) → t < 256 ^ timeSize → Reads (withLastTime γ m t) (salt m) (count m) t (groups γ m) (held γ m) (heldPage γ m)
-    pub groups-set : (g : ℕ) → g < 256 → Reads (withGroups γ m g) (salt m) (count m) (lastTime γ m) g (held γ m) (heldPage γ m)
-    pub held-set : (g : ℕ) → g < 256 → Reads (withHeld γ m g) (salt m) (count m) (lastTime γ m) (groups γ m) g (heldPage γ m)
-    pub page-set : (p : List ℕ) → length p ≡ pageSize γ → Reads (withHeldPage γ m p) (salt m) (count m) (lastTime γ m) (groups γ m) (held γ m) p
-    pub page-held : (g : ℕ) (p : List ℕ) → g < 256 → length p ≡ pageSize γ
-        → Reads (holding γ m g p) (salt m) (count m) (lastTime γ m) (groups γ m) g p
-    pub page-dropped : Reads (holdingNone γ m) (salt m) (count m) (lastTime γ m) (groups γ m) none (repeated (pageSize γ) 0)
+        → Reads (withCount m g n) (salt m) (changed (count m) g n) (lastTime γ m) (groups γ m) (held γ m) (updateCount γ m) (heldPage γ m)
+    pub counts-cleared : Reads (withNoCounts γ m) (salt m) (λ k. 0) (lastTime γ m) (groups γ m) (held γ m) (updateCount γ m) (heldPage γ m)
+    pub time-set : (t : ℕ) → t < 256 ^ timeSize → Reads (withLastTime γ m t) (salt m) (count m) t (groups γ m) (held γ m) (updateCount γ m) (heldPage γ m)
+    pub groups-set : (g : ℕ) → g < 256 → Reads (withGroups γ m g) (salt m) (count m) (lastTime γ m) g (held γ m) (updateCount γ m) (heldPage γ m)
+    pub held-set : (g : ℕ) → g < 256 → Reads (withHeld γ m g) (salt m) (count m) (lastTime γ m) (groups γ m) g (updateCount γ m) (heldPage γ m)
+    pub updates-set : (n : ℕ) → n < 256
+        → Reads (withUpdateCount γ m n) (salt m) (count m) (lastTime γ m) (groups γ m) (held γ m) n (heldPage γ m)
+    pub page-set : (p : List ℕ) → length p ≡ pageSize γ
+        → Reads (withHeldPage γ m p) (salt m) (count m) (lastTime γ m) (groups γ m) (held γ m) (updateCount γ m) p
+    pub page-held : (g n : ℕ) (p : List ℕ) → g < 256 → n < 256 → length p ≡ pageSize γ
+        → Reads (holding γ m g n p) (salt m) (count m) (lastTime γ m) (groups γ m) g n p
+    pub page-dropped : Reads (holdingNone γ m) (salt m) (count m) (lastTime γ m) (groups γ m) none 0 (repeated (pageSize γ) 0)
 
   unfoldable pub GetAfterSet : Type 0
   GetAfterSet = (m : List ℕ) → length m ≡ memorySize γ → Sets m
@@ -63,4 +68,4 @@ module _ (γ : Geometry) where
   -- formatting sets them all
   unfoldable pub FormattedReads : Type 0
   FormattedReads = (g : ℕ) (s : List ℕ) → g < 256 → length s ≡ saltSize
-      → Reads (formattedMemory γ g s) s (λ k. 0) 0 g none (repeated (pageSize γ) 0)
+      → Reads (formattedMemory γ g s) s (λ k. 0) 0 g none 0 (repeated (pageSize γ) 0)

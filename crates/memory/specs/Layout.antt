@@ -29,7 +29,7 @@ abbrev pub byteSize : ℕ
 byteSize = 1
 
 abbrev pub reservedSize : ℕ
-reservedSize = 2
+reservedSize = 1
 
 -- γ is the box's geometry; the numbers quoted are those at base
 module _ (γ : Geometry) where
@@ -44,9 +44,13 @@ module _ (γ : Geometry) where
   abbrev pub heldStart : ℕ
   heldStart = groupsStart + byteSize
 
-  -- "102, 103 zero"
+  -- document 02, Q-4: "Byte 102 of the memory now counts updates to the held page"
+  abbrev pub updateCountStart : ℕ
+  updateCountStart = heldStart + byteSize
+
+  -- and of "102, 103 zero" is left 103
   abbrev pub reservedStart : ℕ
-  reservedStart = heldStart + byteSize
+  reservedStart = updateCountStart + byteSize
 
   -- "104..615 held page"
   abbrev pub pageStart : ℕ

@@ -7,7 +7,7 @@ use Rattle.octets.specs.Number.{numberAt, withNumber}
 use Rattle.lockpage.specs.Geometry.{Geometry}
 use Rattle.lockpage.specs.Size.{pageSize}
 use Rattle.memory.specs.Layout.{memorySize, saltStart, saltSize, countsStart, countSize, countStart, timeStart, timeSize, groupsStart, heldStart}
-use Rattle.memory.specs.Layout.{byteSize, pageStart}
+use Rattle.memory.specs.Layout.{updateCountStart, byteSize, pageStart}
 
 -- ---- the fields whose place is the same in every box
 
@@ -28,6 +28,10 @@ withCount m g n = withNumber m (countStart g) countSize n
 abbrev pub none : ℕ
 none = 255
 
+-- document 02, Q-4: "counts updates to the held page, 1 to 63"
+abbrev pub mostUpdates : ℕ
+mostUpdates = 63
+
 -- γ is the box's geometry
 module _ (γ : Geometry) where
   -- ---- the others, read
@@ -42,6 +46,10 @@ module _ (γ : Geometry) where
   -- the held group, or none
   unfoldable pub held : List ℕ → ℕ
   held m = numberAt m (heldStart γ) byteSize
+
+  -- the updates made to the held page since it came in
+  unfoldable pub updateCount : List ℕ → ℕ
+  updateCount m = numberAt m (updateCountStart γ) byteSize
 
   unfoldable pub heldPage : List ℕ → List ℕ
   heldPage m = part m (pageStart γ) (pageSize γ)
@@ -61,18 +69,21 @@ module _ (γ : Geometry) where
   unfoldable pub withHeld : List ℕ → ℕ → List ℕ
   withHeld m g = withNumber m (heldStart γ) byteSize g
 
+  unfoldable pub withUpdateCount : List ℕ → ℕ → List ℕ
+  withUpdateCount m n = withNumber m (updateCountStart γ) byteSize n
+
   unfoldable pub withHeldPage : List ℕ → List ℕ → List ℕ
   withHeldPage m p = replaced m (pageStart γ) p
 
   -- ---- several at once
 
-  -- page p of group g "becomes the held one"
-  unfoldable pub holding : List ℕ → ℕ → List ℕ → List ℕ
-  holding m g p = withHeldPage (withHeld m g) p
+  -- page p of group g, updated n times, "becomes the held one"
+  unfoldable pub holding : List ℕ → ℕ → ℕ → List ℕ → List ℕ
+  holding m g n p = withHeldPage (withUpdateCount (withHeld m g) n) p
 
-  -- "held becomes 255 and its bytes zero"
+  -- "held becomes 255 and its bytes zero"; document 02, Q-4: the update count "is 0 when none is held"
   unfoldable pub holdingNone : List ℕ → List ℕ
-  holdingNone m = holding m none (repeated (pageSize γ) 0)
+  holdingNone m = holding m none 0 (repeated (pageSize γ) 0)
 
   -- formatting "stores both", G and the salt, "sets .. held to 255 and the rest of the memory to 0"
   unfoldable pub formattedMemory : ℕ → List ℕ → List ℕ

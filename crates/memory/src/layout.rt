@@ -20,9 +20,11 @@ pub const GROUPS_START: usize = TIME_START + TIME_SIZE;
 
 pub const HELD_START: usize = GROUPS_START + 1;
 
-pub const RESERVED_START: usize = HELD_START + 1;
+pub const UPDATE_COUNT_START: usize = HELD_START + 1;
 
-pub const RESERVED_SIZE: usize = 2;
+pub const RESERVED_START: usize = UPDATE_COUNT_START + 1;
+
+pub const RESERVED_SIZE: usize = 1;
 
 pub const PAGE_START: usize = RESERVED_START + RESERVED_SIZE;
 
@@ -30,6 +32,9 @@ pub const MEMORY_SIZE: usize = PAGE_START + lockpage::PAGE_SIZE;
 
 // In the place of a held group: no page is held.
 pub const NONE: u8 = 255;
+
+// A held page has had at most this many updates.
+pub const MOST_UPDATES: u32 = 63;
 
 // Where a group's count stands.
 pub fn count_start(group: u32) -> usize

@@ -5,7 +5,7 @@ ghost use lib.ListN.{length};
 ghost use Rattle.octets.specs.Part.{equal};
 ghost use Rattle.lockpage.specs.Geometry.{present};
 ghost use Rattle.memory.specs.Layout.{memorySize, saltSize};
-ghost use Rattle.memory.specs.Memory.{lastTime, withSalt, withCount, withNoCounts, withLastTime, formattedMemory};
+ghost use Rattle.memory.specs.Memory.{lastTime, updateCount, withSalt, withCount, withNoCounts, withLastTime, formattedMemory};
 ghost use Rattle.memory.specs.Memory as M;
 ghost use Rattle.memory.specs.Ready.{HasCount, FormatReady};
 
@@ -26,6 +26,15 @@ pub fn held(memory: &[u8]) -> u32
     ensures { λ r. ⌜ r ≡ M.held present (now (memory .entry)) ⌝ }
 {
     let byte = octets::load_u8(memory, layout::HELD_START);
+    byte as u32
+}
+
+// How many updates the held page has had.
+pub fn update_count(memory: &[u8]) -> u32
+    requires { ⌜ length (now memory) ≡ memorySize present ⌝ }
+    ensures { λ r. ⌜ r ≡ updateCount present (now (memory .entry)) ⌝ }
+{
+    let byte = octets::load_u8(memory, layout::UPDATE_COUNT_START);
     byte as u32
 }
 

@@ -101,20 +101,6 @@ pub replaced-none : (l : List ℕ) (at : ℕ) → replaced l at [] ≡ l
 unfolding replaced
 replaced-none l at = ap (λ (n : ℕ). take at l ++ drop n l) (add-zero at) ∙ take-append-drop at l
 
--- the same place twice: the second store stands
-pub replaced-again : (l : List ℕ) (at : ℕ) (p q : List ℕ) → length p ≡ length q → at + length p ≤ length l
-    → replaced (replaced l at p) at q ≡ replaced l at q
-unfolding part replaced
-replaced-again l at p q e h =
-    let r : List ℕ = drop (at + length p) l in
-    let same : at + length p ≡ at + length q = omega arith in
-    let size : length (take at l ++ p) ≡ at + length q = length-append (take at l) p ∙ omega (arith, length-take-le at l (omega arith)) in
-    ap₂ (λ (u v : List ℕ). u ++ (q ++ v))
-    (part-before l at p 0 at (omega arith) (omega arith))
-    (ap (drop (at + length q)) (sym (append-assoc (take at l) p r))
-    ∙ drop-at (take at l ++ p) r (at + length q) size
-    ∙ ap (λ (n : ℕ). drop n l) same)
-
 -- two places side by side
 pub replaced-append : (l : List ℕ) (at : ℕ) (p q : List ℕ) → at + length p + length q ≤ length l
     → replaced (replaced l at p) (at + length p) q ≡ replaced l at (p ++ q)

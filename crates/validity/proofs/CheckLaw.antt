@@ -15,9 +15,9 @@ use Rattle.lockpage.specs.Geometry.{Geometry, Proper}
 use Rattle.lockpage.specs.Size.{pageSize}
 use Rattle.lockpage.specs.Update.{latestTime}
 use Rattle.memory.specs.Layout.{memorySize, countStart, timeStart, reservedStart, reservedSize}
-use Rattle.memory.specs.Memory.{count, lastTime, groups, held, none, heldPage}
-use Rattle.validity.specs.Valid.{countLimit, valid}
-use Rattle.validity.proofs.ValidLaw.{UnusedFrom, ReservedZero, decided, invalid}
+use Rattle.memory.specs.Memory.{count, lastTime, groups, held, none, mostUpdates, updateCount, heldPage}
+use Rattle.validity.specs.Valid.{countLimit, validHeld, valid}
+use Rattle.validity.proofs.ValidLaw.{UnusedFrom, ReservedZero, held-facts, held-valid, held-decided, held-invalid, decided, invalid}
 
 -- a comparison that says no, and one that says yes
 not-equal : (r : Bool) (a b : List ℕ) → r ≡ equal a b → not r ≡ true → a ≡ b → ⊥
@@ -51,7 +51,7 @@ module _ {γ : Geometry} (σ : Proper γ) where
     pub counts-unused : not r ≡ false → UnusedFrom γ m (groups γ m)
     counts-unused t = are-equal r _ _ compared t
 
-  -- the two bytes that are 0
+  -- the byte that is 0
   module _ (m : List ℕ) (r : Bool) (e : r ≡ equal (part m (reservedStart γ) reservedSize) (repeated reservedSize 0)) where
     pub reserved-used : not r ≡ true → false ≡ valid γ m
     reserved-used n = invalid σ m (λ v. not-equal r _ _ e n (v .reserved))
@@ -59,50 +59,79 @@ module _ {γ : Geometry} (σ : Proper γ) where
     pub reserved-zero : not r ≡ false → ReservedZero γ m
     reserved-zero n = are-equal r _ _ e n
 
-  -- a held group that is none of the box's, or has no count
-  module _ (m : List ℕ) (h : ℕ) (eh : h ≡ held γ m) (some : h ≡ none → ⊥) where
-    pub held-out : (g : ℕ) → g ≡ groups γ m → g ≤ h → false ≡ valid γ m
-    held-out g eg o = invalid σ m (λ v. omega (arith, v .group (λ e. some (eh ∙ e))))
+  -- the check of what is held decides, where the others are passed
+  pub held-decides : (m : List ℕ) (r : Bool) → Passed γ m → r ≡ validHeld γ m → r ≡ valid γ m
+  held-decides m r p e =
+      decided σ m r
+      (λ t.
+      record {
+        size = p .size;
+        least = p .least;
+        most = p .most;
+        time = p .time;
+        unused = p .unused;
+        reserved = p .reserved;
+        holds = held-facts σ m (sym e ∙ t);
+      })
+      (λ v. e ∙ held-valid σ m (v .holds))
 
-    pub held-uncounted : (n : ℕ) → n ≡ count m h → n < 1 → false ≡ valid γ m
-    held-uncounted n en o = invalid σ m (λ v. omega (arith, ap (count m) eh, v .counted (λ e. some (eh ∙ e))))
+  -- ---- what is held: h is the held group as it was read, u the count of updates
 
-  module _ (m : List ℕ) (p : Passed γ m) where
-    -- with none held, the page decides
-    pub page-decides : (r : Bool) → held γ m ≡ none → r ≡ equal (heldPage γ m) (repeated (pageSize γ) 0) → r ≡ valid γ m
-    page-decides r h e =
-        decided σ m r
-        (λ t.
-        record {
-          size = p .size;
-          least = p .least;
-          most = p .most;
-          group = λ n. absurd (n h);
-          time = p .time;
-          unused = p .unused;
-          reserved = p .reserved;
-          counted = λ n. absurd (n h);
-          unexhausted = λ n. absurd (n h);
-          blank = λ n. equal-true (heldPage γ m) (repeated (pageSize γ) 0) (sym e ∙ t);
-        })
-        (λ v. e ∙ equal-yes (heldPage γ m) (repeated (pageSize γ) 0) (v .blank h))
+  module _ (m : List ℕ) (h u : ℕ) (eh : h ≡ held γ m) (eu : u ≡ updateCount γ m) where
+    -- with none held
+    module _ (is-none : h ≡ none) where
+      pub none-updated : (u ≡ 0 → ⊥) → false ≡ validHeld γ m
+      none-updated n = held-invalid σ m (λ v. n (eu ∙ v .no-updates (sym eh ∙ is-none)))
 
-    -- with a group held, its count
-    pub count-decides : (h n : ℕ) → h ≡ held γ m → (h ≡ none → ⊥) → h < groups γ m → n ≡ count m h → 1 ≤ n → leb n countLimit ≡ valid γ m
-    count-decides h n eh some g en l =
-        let is : n ≡ count m (held γ m) = en ∙ ap (count m) eh in
-        decided σ m (leb n countLimit)
-        (λ t.
-        record {
-          size = p .size;
-          least = p .least;
-          most = p .most;
-          group = λ x. omega arith;
-          time = p .time;
-          unused = p .unused;
-          reserved = p .reserved;
-          counted = λ x. omega arith;
-          unexhausted = λ x. omega (arith, leb-true n countLimit t);
-          blank = λ x. absurd (some (eh ∙ x));
-        })
-        (λ v. le-leb n countLimit (omega (arith, v .unexhausted (λ e. some (eh ∙ e)))))
+      pub page-decides : (r : Bool) → u ≡ 0 → r ≡ equal (heldPage γ m) (repeated (pageSize γ) 0) → r ≡ validHeld γ m
+      page-decides r z e =
+          let here : held γ m ≡ none = sym eh ∙ is-none in
+          held-decided σ m r
+          (λ t.
+          record {
+            group = λ n. absurd (n here);
+            counted = λ n. absurd (n here);
+            unexhausted = λ n. absurd (n here);
+            updated = λ n. absurd (n here);
+            few-updates = λ n. absurd (n here);
+            no-updates = λ n. sym eu ∙ z;
+            blank = λ n. equal-true (heldPage γ m) (repeated (pageSize γ) 0) (sym e ∙ t);
+          })
+          (λ v. e ∙ equal-yes (heldPage γ m) (repeated (pageSize γ) 0) (v .blank here))
+
+    -- with a group held
+    module _ (some : h ≡ none → ⊥) where
+      other : held γ m ≡ none → ⊥
+      other e = some (eh ∙ e)
+
+      pub held-out : (g : ℕ) → g ≡ groups γ m → g ≤ h → false ≡ validHeld γ m
+      held-out g eg o = held-invalid σ m (λ v. omega (arith, v .group other))
+
+      -- n is its count
+      module _ (n : ℕ) (en : n ≡ count m h) where
+        count-is : n ≡ count m (held γ m)
+        count-is = en ∙ ap (count m) eh
+
+        pub held-uncounted : n < 1 → false ≡ validHeld γ m
+        held-uncounted o = held-invalid σ m (λ v. omega (arith, count-is, v .counted other))
+
+        pub held-exhausted : countLimit < n → false ≡ validHeld γ m
+        held-exhausted o = held-invalid σ m (λ v. omega (arith, count-is, v .unexhausted other))
+
+        pub updates-decide : (g : ℕ) → g ≡ groups γ m → h < g → 1 ≤ n → n ≤ countLimit → 1 ≤ u → leb u mostUpdates ≡ validHeld γ m
+        updates-decide g eg l least most one =
+            held-decided σ m (leb u mostUpdates)
+            (λ t.
+            record {
+              group = λ x. omega arith;
+              counted = λ x. omega (arith, count-is);
+              unexhausted = λ x. omega (arith, count-is);
+              updated = λ x. omega arith;
+              few-updates = λ x. omega (arith, leb-true u mostUpdates t);
+              no-updates = λ x. absurd (other x);
+              blank = λ x. absurd (other x);
+            })
+            (λ v. le-leb u mostUpdates (omega (arith, v .few-updates other)))
+
+      pub held-not-updated : u < 1 → false ≡ validHeld γ m
+      held-not-updated o = held-invalid σ m (λ v. omega (arith, v .updated other))

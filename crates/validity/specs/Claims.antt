@@ -8,7 +8,7 @@ use Rattle.lockpage.specs.Geometry.{Geometry}
 use Rattle.lockpage.specs.Size.{pageSize}
 use Rattle.lockpage.specs.Update.{latestTime}
 use Rattle.memory.specs.Layout.{saltSize, countSize}
-use Rattle.memory.specs.Memory.{count, groups, held, none, withSalt, withCount, withNoCounts, withLastTime, holding, holdingNone, formattedMemory}
+use Rattle.memory.specs.Memory.{count, groups, held, none, mostUpdates, withSalt, withCount, withNoCounts, withLastTime, holding, holdingNone, formattedMemory}
 use Rattle.validity.specs.Valid.{countLimit, valid}
 
 -- γ is the box's geometry
@@ -21,8 +21,8 @@ module _ (γ : Geometry) where
     pub count-set : (g n : ℕ) → g < groups γ m → n < 256 ^ countSize → (held γ m ≡ g → (1 ≤ n) × (n ≤ countLimit))
         → valid γ (withCount m g n) ≡ true
     pub counts-cleared : held γ m ≡ none → valid γ (withNoCounts γ m) ≡ true
-    pub page-held : (g : ℕ) (p : List ℕ) → g < groups γ m → 1 ≤ count m g → count m g ≤ countLimit → length p ≡ pageSize γ
-        → valid γ (holding γ m g p) ≡ true
+    pub page-held : (g n : ℕ) (p : List ℕ) → g < groups γ m → 1 ≤ count m g → count m g ≤ countLimit → 1 ≤ n → n ≤ mostUpdates
+        → length p ≡ pageSize γ → valid γ (holding γ m g n p) ≡ true
     pub page-dropped : valid γ (holdingNone γ m) ≡ true
 
   unfoldable pub ChangesKeepValid : Type 0

@@ -1,11 +1,44 @@
 // The check of a controller memory that comes from outside.
 ghost use mathlib.Core.Path.{_≡_};
+ghost use Prim.Native.Nat.{_≤_};
+ghost use lib.ListN.{length};
 ghost use Rattle.lockpage.specs.Geometry.{present};
-ghost use Rattle.validity.specs.Valid.{valid as isValid};
+ghost use Rattle.memory.specs.Layout.{memorySize};
+ghost use Rattle.memory.specs.Memory.{groups};
+ghost use Rattle.validity.specs.Valid.{validHeld, valid as isValid};
 use memory::layout;
 
 // A count at this limit is exhausted.
 pub const COUNT_LIMIT: u32 = 4294967294;
+
+// Whether what is held is valid, a page or none.
+fn valid_held(memory: &[u8]) -> bool
+    requires { ⌜ (length (now memory) ≡ memorySize present) × (groups present (now memory) ≤ present .mostGroups) ⌝ }
+    ensures { λ r. ⌜ r ≡ validHeld present (now (memory .entry)) ⌝ }
+{
+    let group = memory::held(memory);
+    let updates = memory::update_count(memory);
+    if group == layout::NONE as u32 {
+        if updates != 0 {
+            return false;
+        }
+        return held_page::is_zero(memory);
+    }
+    if memory::groups(memory) <= group {
+        return false;
+    }
+    let count = memory::count(memory, group);
+    if count < 1 {
+        return false;
+    }
+    if COUNT_LIMIT < count {
+        return false;
+    }
+    if updates < 1 {
+        return false;
+    }
+    updates <= layout::MOST_UPDATES
+}
 
 // Whether the memory is valid.
 pub fn valid(memory: &[u8]) -> bool
@@ -31,16 +64,5 @@ pub fn valid(memory: &[u8]) -> bool
     if !octets::filled(memory, layout::RESERVED_START, layout::RESERVED_SIZE, 0) {
         return false;
     }
-    let group = memory::held(memory);
-    if group == layout::NONE as u32 {
-        return held_page::is_zero(memory);
-    }
-    if groups <= group {
-        return false;
-    }
-    let count = memory::count(memory, group);
-    if count < 1 {
-        return false;
-    }
-    count <= COUNT_LIMIT
+    valid_held(memory)
 }

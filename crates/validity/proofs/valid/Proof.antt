@@ -2,15 +2,14 @@
 use borrow.Author.Needs.{needs}
 use mathlib.Core.List.{List}
 use Prim.Native.Nat.{ℕ, _*_, _-_}
-use mathlib.Core.Path.{_≡_, ap, sym, _∙_}
+use mathlib.Core.Path.{_≡_, ap, _∙_}
 use native.Mathlib.Omega.{arith}
 use Rattle.lockpage.specs.Geometry.{present}
 use Rattle.lockpage.proofs.GeometryLaw.{present-proper as σ}
 use Rattle.memory.specs.Layout.{countStart, timeStart}
 use Rattle.memory.specs.Memory.{groups}
 use Rattle.validity.proofs.ValidLaw.{invalid}
-use Rattle.validity.proofs.CheckLaw.{Passed, counts-used, counts-unused, reserved-used, reserved-zero, held-out, held-uncounted, page-decides}
-use Rattle.validity.proofs.CheckLaw.{count-decides}
+use Rattle.validity.proofs.CheckLaw.{Passed, counts-used, counts-unused, reserved-used, reserved-zero, held-decides}
 use Rattle.validity.proofs.valid.Statement.{statement}
 use Rattle.validity.proofs.valid.Tie as tie
 
@@ -60,28 +59,8 @@ passed c =
       reserved = reserved-zero σ _ _ (c .before .filled .ensures) (c .if6 .left);
     }
 
-page : tie.Need-returns-7
-page c =
-    let held = c .before .before in
-    page-decides σ _ (passed (held .before)) _ (sym (held .held .ensures) ∙ c .before .if7 .taken) (c .is-zero .ensures)
-
--- the held group, once it is not none
-out : tie.Need-returns-8
-out c =
-    let held = c .before .before in
-    held-out σ _ _ (held .held .ensures) (c .before .if7 .left) _ (groups-read (placed (held .before))) (omega (arith, c .if8 .taken))
-
-uncounted : tie.Need-returns-9
-uncounted c =
-    let seven = c .before .before .before in
-    held-uncounted σ _ _ (seven .before .held .ensures) (seven .if7 .left) _ (c .before .count .ensures) (omega (arith, c .if9 .taken))
-
-count : tie.Need-returns-10
-count c =
-    let eight = c .before .before in
-    let held = eight .before .before in
-    count-decides σ _ (passed (held .before)) _ _ (held .held .ensures) (eight .before .if7 .left)
-    (omega (arith, eight .if8 .left, groups-read (placed (held .before)))) (c .before .count .ensures) (omega (arith, c .if9 .left))
+held : tie.Need-returns-7
+held c = held-decides σ _ _ (passed (c .before)) (c .valid-held .ensures)
 
 pub valid-spec : {M : Type 1} → statement M
 valid-spec =
@@ -91,4 +70,4 @@ valid-spec =
     (λ c. invalid σ _ (λ v. omega (arith, c .if3 .taken, c .before .before .groups .ensures, v .most))) (λ c κs. search needs)
     (λ c. invalid σ _ (λ v. omega (arith, c .if4 .taken, c .before .last-time .ensures, v .time))) (λ c κs. search needs) (λ c. search needs)
     (λ c κs. search needs) unused (λ c κs. search needs) (λ c. reserved-used σ _ _ (c .before .filled .ensures) (c .if6 .taken))
-    (λ c κs. search needs) (λ c. search needs) (λ c κs. search needs) page out (λ c κs. search needs) uncounted count)
+    (λ c κs. search needs) held)
