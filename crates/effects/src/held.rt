@@ -70,11 +70,11 @@ pub(crate) fn lose_held(memory: &mut [u8])
     requires { ⌜ valid present (now memory) ≡ true ⌝ }
     ensures { λ _. ⌜ now (memory .exit) ≡ restartedMemory present (now (memory .entry)) ⌝ }
 {
-    let group = memory::held(memory);
-    if group == NONE as u32 {
+    let lost = memory::held(memory);
+    if lost == NONE as u32 {
         return;
     }
-    let count = memory::count(memory, group);
+    let count = memory::count(memory, lost);
     held_page::hold_none(memory);
-    memory::set_count(memory, group, count + 1);
+    memory::set_count(memory, lost, count + 1);
 }
