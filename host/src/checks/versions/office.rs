@@ -89,9 +89,9 @@ impl Office<'_> {
     fn with_poke(&mut self, call: impl FnOnce(&mut Self) -> Result<(), String>) -> Result<(), String> {
         match self.random.below(6) {
             0 => {
-                self.stores.pair.change_memory(|memory| memory[102] ^= 1);
+                self.stores.pair.change_memory(|memory| memory[103] ^= 1);
                 call(self)?;
-                self.stores.pair.change_memory(|memory| memory[102] ^= 1);
+                self.stores.pair.change_memory(|memory| memory[103] ^= 1);
             }
             1 => {
                 let right = self.stores.state().to_vec();

@@ -133,7 +133,7 @@ fn of_command_refused(seen: &mut Seen, before: &Snapshot, put: &Put, replaced: O
 
 pub fn of_flush(seen: &mut Seen, before: &Snapshot, now: u32, done: Result<(), Refusal>) {
     let pending = if before.state.len() == STATE { before.pending() } else { 0 };
-    let memory_invalid = before.memory.len() != 616 || before.memory[102] != 0;
+    let memory_invalid = before.memory.len() != 616 || before.memory[103] != 0;
     match done {
         Ok(()) => {
             seen.note("a flush without records", pending == 0);
