@@ -106,7 +106,8 @@ static void test_not_counted(void) {
     check_hex("memory after what is no update", box.memory + 100, "02 01 3F 00 3E 00 00 00 D0 07 00 00");
 }
 
-/* With a page held and so many updates, in bytes 102 and 103, each call that asks for the memory gets 1. */
+/* With a page held and so many updates, in bytes 102 and 103, each call that asks for the memory gets 1; put and flush before they ask
+ * for the time, so that it is not their first command which asks. */
 static void refuse_updates(const char *what, uint8_t updates, uint8_t zero) {
     uint8_t blocks[4] = {0}, shown[9];
     start_store(500);
@@ -114,8 +115,8 @@ static void refuse_updates(const char *what, uint8_t updates, uint8_t zero) {
     store.box.memory[102] = updates;
     store.box.memory[103] = zero;
     refuse_command(what, &store.box, make_command(SOCKJADE_SYNC, 0, 1000, 0), SOCKJADE_MEMORY_INVALID, 1);
-    refuse_put(what, make_store_call(7, 1000), SOCKJADE_MEMORY_INVALID, 1);
-    refuse_flush(what, make_store_call(0, 1000), SOCKJADE_MEMORY_INVALID, 1);
+    refuse_put(what, make_store_call(7, 999), SOCKJADE_MEMORY_INVALID, 1);
+    refuse_flush(what, make_store_call(0, 999), SOCKJADE_MEMORY_INVALID, 1);
     uint64_t listed = sockjade_states(store.box.memory, 616, store.box.disk, 2 * 33280, blocks, 4, 1000, shown, 9);
     check_number(what, sockjade_number(listed), SOCKJADE_MEMORY_INVALID, 1);
 }

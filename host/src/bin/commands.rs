@@ -42,6 +42,11 @@ fn main() -> ExitCode {
         &|pair| pair.table.check(),
         &|_| stack::check(),
     ];
+    run(seed, &checks)
+}
+
+/// Runs the checks on one pair of controllers, up to the first difference.
+fn run(seed: u64, checks: &[Check]) -> ExitCode {
     let mut pair = Pair::default();
     let mut counts = Vec::new();
     let mut failed = 0;

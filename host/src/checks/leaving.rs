@@ -56,7 +56,7 @@ fn update(pair: &Pair, group: u32, turn: u32) -> Call {
     let index = turn / 3 * 11 % 64;
     let now = last_time(pair.memory()) + turn % 2;
     let entry = &page(pair.memory(), pair.disk(), group as usize)[8 * index as usize..][..8];
-    let (counting, frozen) = (number(entry, 0) > now, entry[4] % 2 == 0);
+    let (counting, frozen) = (number(entry, 0) > now, entry[4].is_multiple_of(2));
     let kind = match (frozen, counting) {
         (true, _) => 5 + turn % 2,
         (_, true) => 6,

@@ -8,7 +8,10 @@ use super::super::leaving::Tally;
 use super::super::Checked;
 use super::snapshot::Snapshot;
 use super::stores::{Put, Stores, Told};
-use super::{box_of, set_count, set_newest, set_records, some_records, started, BLANK, FROZEN, LAST_AT, MOST_PENDING, NOW, RESERVE_AT};
+use super::{
+    box_of, set_count, set_newest, set_records, some_records, started, BLANK, FROZEN, LAST_AT, LAST_TIME, MOST_PENDING, NOW,
+    RESERVE_AT,
+};
 
 const PART: u32 = 9;
 /// The highest count; an update is accepted below it.
@@ -123,8 +126,8 @@ fn long(stores: &mut Stores, groups: usize, lock: u32) -> Result<(), String> {
     stores.expect_command(7, 0, 2000, 0)
 }
 
-/// A byte of the memory with a page held and with none: a put and a flush get 1 where it is not valid. A flush without records and
-/// the look for a block do not ask.
+/// A byte of the memory with a page held and with none: a put and a flush get 1 where it is not valid, and before 4, so that it is they
+/// who ask and not their first command. A flush without records and the look for a block do not ask.
 fn validity(stores: &mut Stores, at: usize, byte: u8) -> Result<(), String> {
     for held in [true, false] {
         let mut made = holding(0, 7, [0; 3], 5);
@@ -137,6 +140,9 @@ fn validity(stores: &mut Stores, at: usize, byte: u8) -> Result<(), String> {
         let valid = if at == 102 && held { (1..=63).contains(&byte) } else { byte == 0 };
         load(stores, &made);
         stores.expect_block(PART, Ok(20))?;
+        let number = if valid { 4 } else { 1 };
+        stores.expect_put(&Put::new(PART, LAST_TIME - 1), Err(number))?;
+        stores.expect_flush(LAST_TIME - 1, Told::default(), number)?;
         stores.expect_flush(NOW, Told::default(), if valid { 0 } else { 1 })?;
         load(stores, &made);
         stores.expect_put(&Put::new(PART, NOW), if valid { Ok(10) } else { Err(1) })?;
