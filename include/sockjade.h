@@ -22,9 +22,11 @@
  * SOCKJADE_MOST_UPDATES-th update to it since it was taken in. examples/service/ is a model.
  *
  * The memory's bytes: 0 salt; 32 a freshness count of 4 bytes for each of 16 groups; 96 last time; 100 groups; 101 the held group, or
- * 255 for none; 102 the updates to the held page, 1 to SOCKJADE_MOST_UPDATES - 1, or 0 for none; 103 zero; 104 the held page. In a
- * memory from before byte 102 counted (document 02, Q-4) it is 0, also where a page is held, and such a memory gets
- * SOCKJADE_MEMORY_INVALID. So every box is synced, by SOCKJADE_SYNC, before its service is linked with a library that counts.
+ * 255 for none; 102 the updates to the held page, 1 to SOCKJADE_MOST_UPDATES - 1, or 0 for none; 103 zero; 104 the held page.
+ *
+ * An operator's step: a memory from before byte 102 counted (document 02, Q-4) has 0 there, and with a page held it gets
+ * SOCKJADE_MEMORY_INVALID. So every box is synced, by SOCKJADE_SYNC, before its service is linked with a library that counts; one that
+ * was not is synced by the service of before.
  */
 #ifndef SOCKJADE_H
 #define SOCKJADE_H
