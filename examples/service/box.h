@@ -52,7 +52,8 @@ uint32_t format_box(struct box *box);
 /* Loads the box and restarts it. Where the number is not SOCKJADE_ACCEPTED, the box serves nothing. */
 uint32_t start_box(struct box *box);
 
-/* An orderly stop: a sync, so that the next start loses nothing. A service calls it when it is told to end. */
+/* An orderly stop: a sync, so that the next start loses nothing. A service calls it when it is told to end. The last one before a
+ * box gets the first library that counts the updates to a held page has to be orderly: that library refuses a page held from before. */
 uint32_t stop_box(struct box *box);
 
 /* A new salt from the box's generator. Pages given out under the old one match no more. */

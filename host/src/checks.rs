@@ -4,6 +4,7 @@ mod alone;
 pub mod call;
 pub mod edges;
 pub mod effects;
+pub mod leaving;
 pub mod lengths;
 pub mod limits;
 pub mod lists;

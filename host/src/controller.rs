@@ -1,15 +1,18 @@
 //! The controller, written from document 01 and apart from the Rattle code. It works on the slices
 //! that it is lent. The questions see them only to read, so a refusal cannot change a byte. In
-//! `states` is the list of document 02's request Q-1, in `entry` the expiry of Q-2.
+//! `states` is the list of document 02's request Q-1, in `entry` the expiry of Q-2, and in `change`
+//! and `memory` the page that leaves by itself, of Q-4.
 mod entry;
 mod free;
 mod memory;
 mod states;
+#[cfg(test)]
+mod tests;
 
 use crate::blake3;
 use entry::{Entry, Update};
 pub use free::{ask_call, is_free};
-use memory::{Memory, Page, LAST_COUNT, LATEST, PAGE_SIZE};
+use memory::{Memory, Page, LAST_COUNT, LATEST, MOST_UPDATES, PAGE_SIZE};
 pub use states::states;
 use std::ops::Range;
 
@@ -236,7 +239,7 @@ fn show_page<D: Digest>(memory: &Memory, disk: &[u8], group: usize, answer: &mut
 }
 
 /// An update: the held page of another group goes to the disk, a write's data are stored, and the
-/// changed page is held and answered.
+/// changed page is held and answered. With its 64th update it leaves at once, as by a sync.
 fn change<D: Digest>(
     memory: &mut Memory,
     disk: &mut [u8],
@@ -257,13 +260,21 @@ fn change<D: Digest>(
     memory.raise_count(group);
     answer[..PAGE_SIZE].copy_from_slice(memory.held_page());
     answer[PAGE_SIZE..].copy_from_slice(&tag::<D>(memory, group, memory.held_page()));
+    if memory.updates() == MOST_UPDATES {
+        put_held(memory, disk);
+    }
 }
 
-fn sync(memory: &mut Memory, disk: &mut [u8], answer: &mut [u8; PROOF_SIZE]) {
+/// The held page, if any, goes to the disk and is held no more.
+fn put_held(memory: &mut Memory, disk: &mut [u8]) {
     if let Some(group) = memory.held() {
         disk[page_place(group)].copy_from_slice(memory.held_page());
         memory.drop_held();
     }
+}
+
+fn sync(memory: &mut Memory, disk: &mut [u8], answer: &mut [u8; PROOF_SIZE]) {
+    put_held(memory, disk);
     answer.fill(0);
 }
 

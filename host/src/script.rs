@@ -8,6 +8,7 @@ pub const PRINTED_HEADER: &str = "kind block now answer state left";
 
 const MEMORY: usize = 616;
 const LAST_TIME: usize = 96;
+const UPDATES: usize = 102;
 const DISK: usize = 33_280;
 const ANSWER: usize = 544;
 
@@ -105,6 +106,11 @@ impl DepotBox {
 
     pub fn last_time(&self) -> u32 {
         u32::from_le_bytes(self.memory[LAST_TIME..LAST_TIME + 4].try_into().unwrap())
+    }
+
+    /// The updates to the held page.
+    pub fn updates(&self) -> u8 {
+        self.memory[UPDATES]
     }
 
     /// Sends a line's command with the data and the proof that its kind takes.

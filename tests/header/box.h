@@ -7,6 +7,9 @@
 
 enum { ROOM = 1024, TEST_GROUPS = 2 };
 
+/* Where the two pages lie on the disk, in bytes: the physical blocks 64 and 129. */
+enum { PAGE_0 = 64 * 512, PAGE_1 = 129 * 512 };
+
 struct box {
     uint8_t memory[616 + ROOM], disk[TEST_GROUPS * 33280 + ROOM];
     uint8_t data[512 + ROOM];   /* of a write or a new salt; or a list of blocks */

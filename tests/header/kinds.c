@@ -1,11 +1,11 @@
 /* Each kind, accepted, with the bytes of answer, memory and disk, after document 01's "Commands" and its edge values, and document
- * 02's Q-2. The disk's byte offsets are 512 × the physical block: block 64 lies at 65, the pages at 64 and 129. */
+ * 02's Q-2 and Q-4. The disk's byte offsets are 512 × the physical block: block 64 lies at 65. */
 #include <string.h>
 #include "box.h"
 #include "check.h"
 #include "tests.h"
 
-enum { PAGE_0 = 64 * 512, BLOCK_64 = 65 * 512, PAGE_1 = 129 * 512 };
+enum { BLOCK_64 = 65 * 512 };
 
 static struct box box;
 
@@ -79,7 +79,7 @@ static void test_write(void) {
     check_blank("other entries of a write", box.answer + 8, 63);
     check_hex("tag of a write", box.answer + 512, "b855e318f2716443a2176973d18e5d5f017c3046a0c78488f313e876a63e087c");
     check_hex("counts after a write", box.memory + 32, "00 00 00 00 01 00 00 00");
-    check_hex("memory after a write", box.memory + 96, "E8 03 00 00 02 01 00 00");
+    check_hex("memory after a write", box.memory + 96, "E8 03 00 00 02 01 01 00");
     check_same("held page after a write", box.memory + 104, box.answer, 512);
     check_filled("data after a write", box.disk + BLOCK_64, 0x61, 512);
     check_filled("data behind a write", box.disk + BLOCK_64 + 512, 0x78, 63 * 512);
@@ -104,7 +104,7 @@ static void test_eviction(void) {
     check_hex("page of group 1 on the disk", box.disk + PAGE_1, "F4 01 00 00 D0 07 00 00");
     check_blank("disk's page of group 0", box.disk + PAGE_0, 64);
     check_hex("counts after two writes", box.memory + 32, "01 00 00 00 01 00 00 00");
-    check_hex("memory after two writes", box.memory + 96, "E9 03 00 00 02 00 00 00 F4 01 00 00 D2 07 00 00");
+    check_hex("memory after two writes", box.memory + 96, "E9 03 00 00 02 00 01 00 F4 01 00 00 D2 07 00 00");
 }
 
 /* A new box, in which block 64 is written under a lock and at once unfrozen. */

@@ -10,6 +10,7 @@ int main(void) {
     test_digest();
     test_format();
     test_kinds();
+    test_updates();
     test_numbers();
     test_states();
     test_versions();

@@ -14,7 +14,15 @@ static void refuse_memory(const char *what, size_t offset, uint8_t byte) {
     refuse_command(what, &box, make_command(SOCKJADE_IDENTIFY, 0, 0, 0), SOCKJADE_MEMORY_INVALID, 1);
 }
 
-/* "1. Is the memory 616 bytes and valid?" */
+/* A new box whose memory holds a group's page, after so many updates. Each group's count is 0. */
+static void refuse_held(const char *what, uint8_t group, uint8_t updates) {
+    format_box(&box);
+    box.memory[101] = group;
+    box.memory[102] = updates;
+    refuse_command(what, &box, make_command(SOCKJADE_IDENTIFY, 0, 0, 0), SOCKJADE_MEMORY_INVALID, 1);
+}
+
+/* "1. Is the memory 616 bytes and valid?" Byte 102 with a page held is in updates.c. */
 static void test_memory(void) {
     struct command command = make_command(SOCKJADE_IDENTIFY, 0, 0, 0);
     format_box(&box);
@@ -24,11 +32,11 @@ static void test_memory(void) {
     refuse_command("memory of 617 bytes", &box, command, SOCKJADE_MEMORY_INVALID, 1);
     refuse_memory("memory of no groups", 100, 0);
     refuse_memory("memory of 17 groups", 100, 17);
-    refuse_memory("memory that holds group 2", 101, 2);
-    refuse_memory("memory that holds a group of count 0", 101, 1);
+    refuse_held("memory that holds group 2", 2, 1);
+    refuse_held("memory that holds a group of count 0", 1, 1);
     refuse_memory("last time 2,147,483,648", 99, 0x80);
     refuse_memory("count of group 2", 40, 1);
-    refuse_memory("byte 102", 102, 1);
+    refuse_memory("updates with none held", 102, 1);
     refuse_memory("byte 103", 103, 1);
     refuse_memory("held page with none held", 615, 1);
 }

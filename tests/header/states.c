@@ -72,7 +72,7 @@ static void test_shown(void) {
     check_number("state of 127", box.answer[2 * SOCKJADE_SHOWN_SIZE], SOCKJADE_FREE, 0);
     check_hex("64, 0, 127 at 1650", box.answer,
               "01 07 00 00 00 00 00 00 00  02 33 00 00 00 00 00 00 00  00 8E F9 FF FF FF FF FF FF"); /* 1,701 - 1,650 = 51 */
-    check_hex("memory after a list", box.memory + 96, "72 06 00 00 02 01 00 00");
+    check_hex("memory after a list", box.memory + 96, "72 06 00 00 02 01 01 00");
     list_three(0, 64, 0);
     accept_query("0, 64, 0 at 1700", make_query(3, 1700), 2, 27);
     check_hex("0, 64, 0 at 1700", box.answer,
@@ -120,6 +120,7 @@ static void test_all_groups(void) {
     freeze_page(memory + 104, 5, 10000);
     memory[32 + 4 * 5] = 1; /* a held group's count is 1 or more */
     memory[101] = 5;
+    memory[102] = 1; /* and so are its updates */
     for (uint32_t i = 0; i < 64; i++)
         store_little_endian(blocks + 4 * i, 1023 - 16 * i, 4);
     uint64_t result = sockjade_states(memory, 616, disk, PAGES * 33280, blocks, 256, 1000, answer, 576);

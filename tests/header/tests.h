@@ -5,6 +5,7 @@
 void test_digest(void);
 void test_format(void);
 void test_kinds(void);
+void test_updates(void);
 void test_numbers(void);
 void test_states(void);
 void test_versions(void);

@@ -17,4 +17,7 @@ fn main() {
     run_script(b"last_line");
     run_script(b"refusals");
     run_script(b"restart");
+    run_script(b"updates_63");
+    run_script(b"updates_64");
+    run_script(b"updates_apart");
 }

@@ -2,30 +2,38 @@
 //! and interleaved. Above 1.00 the archive is faster. And a command's cost in a box of 16 groups as
 //! a ratio to that in a box of one.
 //!
-//! Every command timed is an accepted one to a block of the box's last group, whose page is held. A
-//! round writes the 64 blocks in turn with lock 0, grows their locks by 0, and unfreezes them, after
-//! which they are free again: so nothing is reset, and each update brings what the one before
-//! answered, in two buffers that change places. What is timed is the calls alone.
+//! Every command timed is an accepted one to a block of the box's last group. A round writes the 64
+//! blocks in turn with lock 0, grows their locks by 0, and unfreezes them, after which they are free
+//! again: so nothing is reset, and each update brings what the one before answered, in two buffers
+//! that change places. The page leaves by itself with the last of each 64, whose mean so includes it;
+//! the second table has what that adds. It is held again while the other kinds are timed. What is
+//! timed is the calls alone.
 use crate::median;
 #[cfg(official)]
 use crate::official;
 use sockjade_host::controller::{self, Command, Digest, Message};
 use sockjade_host::archive;
 use std::hint::black_box;
+use std::ops::Range;
 use std::time::Instant;
 
 const ROUNDS: usize = 2001;
 const NOW: u32 = 1000;
 
+/// The updates to a page until it leaves.
+const UPDATES: u32 = 64;
+
 /// Kinds in the order in which a round can send them, with the calls of one slice.
 const KINDS: [(u32, &str, u32); 6] = [
-    (controller::WRITE, "write", 64),
-    (controller::INCREMENT, "increment", 64),
-    (controller::UNFREEZE, "unfreeze", 64),
+    (controller::WRITE, "write", UPDATES),
+    (controller::INCREMENT, "increment", UPDATES),
+    (controller::UNFREEZE, "unfreeze", UPDATES),
     (controller::READ, "read", 512),
     (controller::ENTRY, "entry", 512),
     (controller::PAGE, "page", 64),
 ];
+/// How many of them are updates.
+const UPDATING: usize = 3;
 
 type Controller = fn(&mut [u8], &mut [u8], &Command, &mut [u8]) -> u32;
 
@@ -39,6 +47,8 @@ fn host(memory: &mut [u8], disk: &mut [u8], c: &Command, answer: &mut [u8]) -> u
 
 /// What the host's controller makes tags with: the official portable code where it is installed.
 pub struct Tags;
+
+const TAGS: &str = if cfg!(official) { "official portable BLAKE3" } else { "its own BLAKE3" };
 
 impl Digest for Tags {
     #[cfg(official)]
@@ -79,11 +89,27 @@ impl Timed {
 
     /// Nanoseconds for one command, over so many calls.
     fn slice(&mut self, kind: u32, calls: u32) -> f64 {
+        self.total(kind, 0..calls) / calls as f64
+    }
+
+    /// No page is held, as at the start of a round.
+    fn sync(&mut self) {
+        self.slice(controller::SYNC, 1);
+    }
+
+    /// The group's page is held, and every block free.
+    fn hold(&mut self) {
+        self.slice(controller::WRITE, 1);
+        self.slice(controller::UNFREEZE, 1);
+    }
+
+    /// Nanoseconds for these calls, each to the next block of the group.
+    fn total(&mut self, kind: u32, calls: Range<u32>) -> f64 {
         let update = (controller::WRITE..=controller::INCREMENT).contains(&kind);
         let data: &[u8] = if kind == controller::WRITE { &[0xA5; 512] } else { &[] };
         let mut refused = 0;
         let began = Instant::now();
-        for call in 0..calls {
+        for call in calls {
             let block = if kind == controller::PAGE { self.group } else { 64 * self.group + call % 64 };
             let proof: &[u8] = if update { &self.current } else { &[] };
             let command = black_box(Command { kind, block, now: NOW, value: 0, data, proof });
@@ -95,7 +121,16 @@ impl Timed {
         }
         let passed = began.elapsed().as_nanos() as f64;
         assert_eq!(refused, 0, "kind {kind}");
-        passed / calls as f64
+        passed
+    }
+
+    /// Nanoseconds for the updates with which the page does not leave, of them the last one by itself, and for the one with
+    /// which it does.
+    fn leaving(&mut self, kind: u32) -> [f64; 3] {
+        let (one, last) = (UPDATES - 2, UPDATES - 1);
+        let times = [0..one, one..last, last..UPDATES].map(|calls| self.total(kind, calls));
+        assert_eq!(self.memory[101], 255, "the page has not left");
+        times
     }
 }
 
@@ -107,21 +142,53 @@ struct Measured {
 }
 
 pub fn run() {
+    rates();
+    println!();
+    leaving();
+}
+
+fn rates() {
     let mut boxes = [Timed::new(ours, 1), Timed::new(host, 1), Timed::new(ours, 16)];
     let mut measured: [Measured; KINDS.len()] = Default::default();
     for _ in 0..ROUNDS {
-        for ((kind, _, calls), m) in KINDS.iter().zip(&mut measured) {
+        boxes.iter_mut().for_each(Timed::sync);
+        for (place, ((kind, _, calls), m)) in KINDS.iter().zip(&mut measured).enumerate() {
+            if place == UPDATING {
+                boxes.iter_mut().for_each(Timed::hold);
+            }
             let [one, host, sixteen] = boxes.each_mut().map(|timed| timed.slice(*kind, *calls));
             m.ours.push(one);
             m.to_host.push(host / one);
             m.to_one_group.push(sixteen / one);
         }
     }
-    let tags = if cfg!(official) { "official portable BLAKE3" } else { "its own BLAKE3" };
-    println!("| command | per second | / host with {tags} | cost at 16 groups / at 1 |\n|---|---|---|---|");
+    println!("| command | per second | / host with {TAGS} | cost at 16 groups / at 1 |\n|---|---|---|---|");
     for ((_, name, _), m) in KINDS.iter().zip(&mut measured) {
         let per_second = 1e9 / median(&mut m.ours);
         let (to_host, to_one) = (median(&mut m.to_host), median(&mut m.to_one_group));
         println!("| {name} | {per_second:.0} | {to_host:.2} | {to_one:.2} |");
+    }
+}
+
+/// What the page's leaving adds: the mean over 64 updates, with the last of which it leaves, against the host's, and as times of the
+/// mean over the 63 before it; and the last as times of the one before it, each timed by itself.
+fn leaving() {
+    let mut boxes = [Timed::new(ours, 1), Timed::new(host, 1)];
+    let mut measured: [[Vec<f64>; 3]; UPDATING] = Default::default();
+    for _ in 0..ROUNDS {
+        for ((kind, _, _), [to_host, to_before, last_to_one]) in KINDS.iter().zip(&mut measured) {
+            let [ours, host] = boxes.each_mut().map(|timed| timed.leaving(*kind));
+            let [all, hosts_all] = [ours, host].map(|times| times.iter().sum::<f64>());
+            let [many, one, last] = ours;
+            to_host.push(hosts_all / all);
+            to_before.push(all / UPDATES as f64 / ((many + one) / (UPDATES - 1) as f64));
+            last_to_one.push(last / one);
+        }
+    }
+    println!("| {UPDATES} updates, the page leaving with the last | / host with {TAGS} | time / of those before it | the last / the one before it |");
+    println!("|---|---|---|---|");
+    for ((_, name, _), values) in KINDS.iter().zip(&mut measured) {
+        let [to_host, to_before, last_to_one] = values.each_mut().map(|values| median(values));
+        println!("| {name} | {to_host:.2} | {to_before:.3} | {last_to_one:.2} |");
     }
 }

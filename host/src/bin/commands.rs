@@ -3,7 +3,7 @@
 //! have. It stops at the first difference; a run is a function of its seed. The last line has the counts for the gate.
 use sockjade_host::arguments::seed_and_count;
 use sockjade_host::checks::pair::Pair;
-use sockjade_host::checks::{edges, effects, lengths, limits, lists, order, pages, runs, stack, validity, Checked};
+use sockjade_host::checks::{edges, effects, leaving, lengths, limits, lists, order, pages, runs, stack, validity, Checked};
 use std::process::ExitCode;
 
 const SEED: u64 = 1;
@@ -20,16 +20,20 @@ fn main() -> ExitCode {
         }
     };
     println!("commands: seed {seed}");
-    let checks: [Check; 16] = [
+    let checks: [Check; 20] = [
         &|_| edges::check(),
         &|_| effects::check(),
         &|_| lists::hand::check(),
+        &|_| leaving::hand::check(),
+        &|_| leaving::stores::check(),
         &lengths::check,
         &validity::check,
         &order::check,
         &order::check_formatting,
         &limits::check,
         &pages::check,
+        &leaving::between::check,
+        &leaving::turns::check,
         &lists::order::check,
         &lists::lengths::check,
         &lists::limits::check,
@@ -38,6 +42,11 @@ fn main() -> ExitCode {
         &|pair| pair.table.check(),
         &|_| stack::check(),
     ];
+    run(seed, &checks)
+}
+
+/// Runs the checks on one pair of controllers, up to the first difference.
+fn run(seed: u64, checks: &[Check]) -> ExitCode {
     let mut pair = Pair::default();
     let mut counts = Vec::new();
     let mut failed = 0;

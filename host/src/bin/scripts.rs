@@ -4,7 +4,7 @@
 //! line has the counts for the gate.
 use sockjade_host::arguments::seed_and_count;
 use sockjade_host::checks::script::tester::Tester;
-use sockjade_host::checks::script::{bytes, damage, forms, headers, kept, long, pieces, runs, sizes};
+use sockjade_host::checks::script::{bytes, damage, forms, headers, kept, leaving, long, pieces, runs, sizes};
 use sockjade_host::checks::Checked;
 use std::process::ExitCode;
 
@@ -29,12 +29,13 @@ fn main() -> ExitCode {
         }
     };
     println!("scripts: seed {seed}");
-    let checks: [Check; 10] = [
+    let checks: [Check; 11] = [
         &kept::check,
         &headers::check,
         &forms::check,
         &bytes::check,
         &long::check,
+        &leaving::check,
         &|tester| runs::check(tester, seed, count),
         &|tester| tester.seen.check(),
         &|tester| damage::check(tester, seed, count / LINES_FOR_DAMAGED),

@@ -4,7 +4,7 @@
 //! counts for the gate.
 use sockjade_host::arguments::seed_and_count;
 use sockjade_host::checks::versions::stores::Stores;
-use sockjade_host::checks::versions::{fields, hand, hostile, lengths, logs, order, runs, search, stack};
+use sockjade_host::checks::versions::{fields, hand, hostile, leaving, lengths, logs, order, runs, search, stack};
 use sockjade_host::checks::Checked;
 use std::process::ExitCode;
 
@@ -22,13 +22,14 @@ fn main() -> ExitCode {
         }
     };
     println!("versions: seed {seed}");
-    let checks: [Check; 9] = [
+    let checks: [Check; 10] = [
         &|_| hand::check(),
         &lengths::check,
         &fields::check,
         &order::check,
         &search::check,
         &hostile::check,
+        &leaving::check,
         &|stores| logs::check(stores, seed),
         &|_| runs::check(seed, count),
         &|_| stack::check(),

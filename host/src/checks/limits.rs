@@ -133,10 +133,14 @@ fn counts(pair: &mut Pair, count: u32) -> Result<(), String> {
         if (1..=HIGHEST_COUNT).contains(&count) {
             memory[101] = 1;
             memory[104..].copy_from_slice(&even_page(word, stamp));
-            pair.load(&memory, &disk);
-            let call = pair.good(kind, 100, 50, 3);
-            pair.expect(&call, if count < HIGHEST_COUNT { 0 } else { 8 })?;
-            [2, 7, 3].into_iter().try_for_each(|kind| pair.expect(&Call::new(kind, 1, 60, 0), 0))?;
+            // Behind the update the page is still held; or it has left.
+            for updates in [1, 63] {
+                memory[102] = updates;
+                pair.load(&memory, &disk);
+                let call = pair.good(kind, 100, 50, 3);
+                pair.expect(&call, if count < HIGHEST_COUNT { 0 } else { 8 })?;
+                [2, 7, 3].into_iter().try_for_each(|kind| pair.expect(&Call::new(kind, 1, 60, 0), 0))?;
+            }
         }
     }
     Ok(())

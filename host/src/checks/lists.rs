@@ -13,6 +13,8 @@ use std::collections::BTreeSet;
 const LAST_TIME: u32 = 1000;
 pub const NOW: u32 = 5000;
 pub const NONE: u8 = 255;
+/// The updates to a held page.
+const UPDATES: u8 = 63;
 
 /// A list to be sent.
 pub struct List {
@@ -58,6 +60,7 @@ pub fn box_of(groups: usize, held: u8) -> (Vec<u8>, Vec<u8>) {
         fill_page(&mut stretch[GROUP - 512..], group as u32, 0);
     }
     if held != NONE {
+        memory[102] = UPDATES;
         fill_page(&mut memory[104..], held as u32, 1);
     }
     (memory, disk)

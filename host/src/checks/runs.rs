@@ -6,22 +6,27 @@ use super::Checked;
 use crate::random::Random;
 
 const COMMANDS: usize = 1000;
+/// In so many boxes some page leaves by itself.
+const MANY: usize = 50;
 
 pub fn check(pair: &mut Pair, seed: u64, count: usize) -> Checked {
     let mut random = Random::new(seed);
     let mut old = Vec::new();
-    let mut sent = 0;
-    let mut boxes = 0;
+    let (mut sent, mut boxes, mut left) = (0, 0, 0);
     while sent < count {
         start(pair, &mut random)?;
         let few = if pair.disk().len() > 4 * GROUP { COMMANDS / 4 } else { COMMANDS };
         let run = few.min(count - sent);
         let mut server = Server::new(pair, &mut random, &mut old);
         (0..run).try_for_each(|_| server.step())?;
+        left += server.left;
         sent += run;
         boxes += 1;
     }
-    Ok(format!("runs: {sent} commands and lists to {boxes} boxes"))
+    if boxes >= MANY && left == 0 {
+        return Err(format!("no page has left by itself in {boxes} boxes"));
+    }
+    Ok(format!("runs: {sent} commands and lists to {boxes} boxes, {left} pages that left by themselves"))
 }
 
 /// A formatted box. In some the last time or the counts are near their end, or the pages have

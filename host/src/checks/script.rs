@@ -6,6 +6,7 @@ pub mod forms;
 pub mod generate;
 pub mod headers;
 pub mod kept;
+pub mod leaving;
 pub mod long;
 pub mod pieces;
 pub mod program;

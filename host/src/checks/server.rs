@@ -10,6 +10,10 @@ use crate::random::Random;
 
 /// How often each kind is sent, in order, of 100.
 const WEIGHTS: [usize; 10] = [9, 12, 7, 24, 16, 18, 5, 4, 2, 3];
+/// The same by an office that forgets to sync, so that pages leave by themselves.
+const FORGETFUL: [usize; 10] = [7, 9, 5, 29, 19, 29, 0, 0, 0, 2];
+/// Such an office stays with one group, and changes it at one update in so many.
+const CHANGE_EVERY: usize = 80;
 const LIMITS: [u32; 8] = [0, 1, LATEST - 1, LATEST, LATEST + 1, LATEST + 2, u32::MAX - 1, u32::MAX];
 const KEPT: usize = 24;
 /// One step in so many sends a list.
@@ -23,12 +27,17 @@ pub struct Server<'a> {
     pages: Vec<Option<Vec<u8>>>,
     /// Earlier answers, of this box and others.
     old: &'a mut Vec<Vec<u8>>,
+    /// The group with which an office stays that forgets to sync.
+    forgetful: Option<usize>,
+    /// How many pages have left by themselves.
+    pub left: usize,
 }
 
 impl<'a> Server<'a> {
     pub fn new(pair: &'a mut Pair, random: &'a mut Random, old: &'a mut Vec<Vec<u8>>) -> Self {
         let groups = pair.memory()[100] as usize;
-        Server { pair, random, groups, pages: vec![None; groups], old }
+        let forgetful = (random.below(2) == 0).then_some(groups - 1);
+        Server { pair, random, groups, pages: vec![None; groups], old, forgetful, left: 0 }
     }
 
     pub fn step(&mut self) -> Result<(), String> {
@@ -61,7 +70,10 @@ impl<'a> Server<'a> {
     fn keep(&mut self, call: &Call) {
         match call.kind {
             3 => self.renew(call.block as usize),
-            4..=6 => self.renew(call.block as usize / 64),
+            4..=6 => {
+                self.left += usize::from(self.pair.memory()[101] == 255);
+                self.renew(call.block as usize / 64);
+            }
             8 | 9 => (0..self.groups).for_each(|group| self.forget(group)),
             _ => {}
         }
@@ -85,7 +97,20 @@ impl<'a> Server<'a> {
     }
 
     fn kind(&mut self) -> u32 {
-        self.random.weighted(&WEIGHTS).map_or(10, |place| place as u32 + 1)
+        let weights = if self.forgetful.is_some() { &FORGETFUL } else { &WEIGHTS };
+        self.random.weighted(weights).map_or(10, |place| place as u32 + 1)
+    }
+
+    fn group(&mut self) -> usize {
+        let any = self.random.below(self.groups);
+        match &mut self.forgetful {
+            Some(group) if self.random.below(CHANGE_EVERY) > 0 => *group,
+            Some(group) => {
+                *group = any;
+                any
+            }
+            None => any,
+        }
     }
 
     fn now(&mut self) -> u32 {
@@ -106,7 +131,7 @@ impl<'a> Server<'a> {
     /// A command that should pass, or kind 3 where the server lacks the page.
     fn good(&mut self) -> Call {
         let (kind, now, value) = (self.kind(), self.now(), self.value());
-        let group = self.random.below(self.groups);
+        let group = self.group();
         if !(4..=6).contains(&kind) {
             let block = if kind == 3 { group } else { self.random.below(64 * self.groups) };
             let mut call = Call::new(kind, block as u32, now, value);

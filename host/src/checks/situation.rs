@@ -6,6 +6,8 @@ const BLOCK: u32 = 70;
 const LAST_TIME: u32 = 1000;
 pub const NOW: u32 = 1200;
 const HIGHEST_COUNT: u32 = u32::MAX - 1;
+/// The updates to a held page: with one more it leaves.
+const UPDATES: u8 = 63;
 
 /// Which group's page the box holds: none, another than the command's, or the command's.
 pub const HELD: [u8; 3] = [255, 0, 1];
@@ -87,6 +89,7 @@ fn box_of(kind: u32, held: u8, no: Questions) -> (Vec<u8>, Vec<u8>) {
     memory[100] = 2;
     memory[101] = held;
     if held != 255 {
+        memory[102] = UPDATES;
         memory[104..].copy_from_slice(&[0xE1; 512]);
     }
     let page = if held == 1 { &mut memory[104..] } else { &mut disk[129 * 512..] };
@@ -130,6 +133,7 @@ fn spoil_early(made: &mut Situation, no: Questions, turn: usize) {
         call.disk_len = Some([made.disk.len() - 1, made.disk.len() + 1][turn % 2]);
     }
     if no.has(1) {
-        made.memory[102 + turn % 2] = 1;
+        // More updates than a held page can have, some where none is held; or byte 103.
+        made.memory[102 + turn % 2] += 1;
     }
 }

@@ -11,10 +11,8 @@ type Change = (usize, usize, u32, bool);
 const TIMES: [Change; 5] =
     [(96, 4, 0, true), (96, 4, NOW, true), (96, 4, LATEST, true), (96, 4, LATEST + 1, false), (96, 4, u32::MAX, false)];
 
-const RESERVED: [Change; 6] = [
-    (102, 1, 1, false), (102, 1, 128, false), (102, 1, 255, false), (103, 1, 1, false), (103, 1, 128, false),
-    (103, 1, 255, false),
-];
+/// About the limits of byte 102, and numbers that have one of them in their low bits.
+const UPDATES: [u8; 14] = [0, 1, 2, 62, 63, 64, 65, 127, 128, 129, 191, 192, 254, 255];
 
 /// With G 2: no number of groups but 1 to 16. (With another the disk's length is wrong.)
 const GROUPS: [Change; 5] =
@@ -33,9 +31,10 @@ const COUNTS: [Change; 4] = [(32, 4, 0, true), (32, 4, u32::MAX, true), (36, 4, 
 pub fn check(pair: &mut Pair) -> Checked {
     let start = pair.index;
     for held in [255, 1] {
-        for change in TIMES.into_iter().chain(RESERVED).chain(GROUPS) {
+        for change in TIMES.into_iter().chain(GROUPS) {
             one(pair, held, change)?;
         }
+        (0..=255).try_for_each(|number| counted(pair, held, number))?;
         for at in 40..96 {
             one(pair, held, (at, 1, 1, false))?;
             one(pair, held, (at, 1, 128, false))?;
@@ -57,12 +56,30 @@ pub fn check(pair: &mut Pair) -> Checked {
 /// The memory takes the change. Where it stays valid it gets a sync, a restart and an identify;
 /// where not, every kind, or one of them if the place is one of the many of the held page. A list
 /// goes to each such box as well.
-fn one(pair: &mut Pair, held: u8, (at, size, number, valid): Change) -> Result<(), String> {
+fn one(pair: &mut Pair, held: u8, change: Change) -> Result<(), String> {
+    let (at, _, _, valid) = change;
     let kinds = match valid {
         true => vec![7, 8, 10],
         false if at >= 104 => vec![1 + at as u32 % 10],
         false => (1..=10).chain(UNKNOWN).collect(),
     };
+    sent_each(pair, held, change, kinds)
+}
+
+/// Document 02's Q-4: byte 102 is 1 to 63 with a page held and 0 with none, and byte 103 is 0. A box whose page is held from before
+/// Q-4 has 0 in both. About the limits every kind is sent, and else one of them and an update. An archive without one half of the
+/// clause, or with another limit, is found here.
+fn counted(pair: &mut Pair, held: u8, number: u8) -> Result<(), String> {
+    let kinds: Vec<u32> = match UPDATES.contains(&number) {
+        true => (1..=10).collect(),
+        false => vec![1 + number as u32 % 10, 4 + number as u32 % 3],
+    };
+    let valid = if held == 255 { number == 0 } else { (1..=63).contains(&number) };
+    sent_each(pair, held, (102, 1, number as u32, valid), kinds.clone())?;
+    sent_each(pair, held, (103, 1, number as u32, number == 0), kinds)
+}
+
+fn sent_each(pair: &mut Pair, held: u8, (at, size, number, valid): Change, kinds: Vec<u32>) -> Result<(), String> {
     for kind in kinds {
         let mut made = situation(kind, held, Questions::NONE, 0);
         match size {
@@ -98,6 +115,7 @@ fn numbers_of_groups(pair: &mut Pair) -> Result<(), String> {
         }
         // The groups of the box have a count that fits a held one.
         (0..groups as usize).for_each(|group| memory[32 + 4 * group] = 1);
+        memory[102] = 1;
         for held in [0, groups - 1, groups, groups + 1, 16, 17, 254] {
             memory[101] = held;
             sent(pair, &memory, &disk, held < groups)?;

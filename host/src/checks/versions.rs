@@ -2,6 +2,7 @@
 pub mod fields;
 pub mod hand;
 pub mod hostile;
+pub mod leaving;
 pub mod lengths;
 pub mod logs;
 mod office;

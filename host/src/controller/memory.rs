@@ -5,6 +5,8 @@ pub const PAGE_SIZE: usize = 512;
 pub const LATEST: u32 = 2_147_483_647;
 /// No update is accepted from this count on.
 pub const LAST_COUNT: u32 = 4_294_967_294;
+/// With so many updates a held page leaves, by document 02's Q-4: a valid memory has fewer.
+pub const MOST_UPDATES: u8 = 64;
 
 pub type Page = [u8; PAGE_SIZE];
 
@@ -13,6 +15,9 @@ const SALT: usize = 32;
 const TIME: usize = 96;
 const GROUPS: usize = 100;
 const HELD: usize = 101;
+/// The updates to the held page.
+const UPDATES: usize = 102;
+const ZERO: usize = 103;
 const PAGE: usize = 104;
 const SIZE: usize = PAGE + PAGE_SIZE;
 
@@ -43,7 +48,7 @@ impl Memory {
 
     pub fn valid(&self) -> bool {
         let groups = self.groups();
-        if !(1..=16).contains(&groups) || self.last_time() > LATEST || self.0[HELD + 1..PAGE] != [0, 0] {
+        if !(1..=16).contains(&groups) || self.last_time() > LATEST || self.0[ZERO] != 0 {
             return false;
         }
         let unused = &self.0[SALT + 4 * groups..TIME];
@@ -51,8 +56,11 @@ impl Memory {
             return false;
         }
         match self.held() {
-            None => self.0[PAGE..] == [0; PAGE_SIZE],
-            Some(group) => group < groups && (1..=LAST_COUNT).contains(&self.count(group)),
+            None => self.updates() == 0 && self.0[PAGE..] == [0; PAGE_SIZE],
+            Some(group) => {
+                let counted = (1..MOST_UPDATES).contains(&self.updates());
+                group < groups && counted && (1..=LAST_COUNT).contains(&self.count(group))
+            }
         }
     }
 
@@ -68,14 +76,22 @@ impl Memory {
         self.0[PAGE..].try_into().unwrap()
     }
 
-    /// The page of the group that becomes the held one, to be written.
+    /// How many updates were made to the held page.
+    pub fn updates(&self) -> u8 {
+        self.0[UPDATES]
+    }
+
+    /// The page of an update's group, which is the held one now, to be written. The update is counted.
     pub fn hold(&mut self, group: usize) -> &mut Page {
+        let before = if self.held() == Some(group) { self.updates() } else { 0 };
+        self.0[UPDATES] = before + 1;
         self.0[HELD] = group as u8;
         (&mut self.0[PAGE..]).try_into().unwrap()
     }
 
     pub fn drop_held(&mut self) {
         self.0[HELD] = NONE;
+        self.0[UPDATES] = 0;
         self.0[PAGE..].fill(0);
     }
 

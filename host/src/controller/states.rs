@@ -93,37 +93,15 @@ fn shown(entry: Entry, now: u32) -> [u8; SHOWN_SIZE] {
 
 #[cfg(test)]
 mod tests {
-    use super::super::{command, format, Command, OwnDigest, PAGE, SYNC, UNFREEZE, WRITE};
+    use super::super::tests::Formatted;
+    use super::super::{SYNC, UNFREEZE, WRITE};
     use super::states;
 
     /// What formatting leaves of an entry, at 1000: free, and 1000 seconds past.
     const BLANK: [u8; 9] = [0, 0x18, 0xFC, 0xFF, 0xFF, 0xFF, 0xFF, 0xFF, 0xFF];
     const LOCK_500: [u8; 9] = [1, 0xF4, 0x01, 0, 0, 0, 0, 0, 0];
 
-    struct Formatted {
-        memory: [u8; 616],
-        disk: Vec<u8>,
-    }
-
     impl Formatted {
-        fn new(groups: u32) -> Formatted {
-            let mut made = Formatted { memory: [0; 616], disk: vec![0; 33_280 * groups as usize] };
-            assert_eq!(format(&mut made.memory, &mut made.disk, groups, &[0; 32]), 0);
-            made
-        }
-
-        fn sends(&mut self, kind: u32, block: u32, now: u32, value: u32) -> [u8; 544] {
-            let proof = match kind {
-                WRITE | UNFREEZE => self.sends(PAGE, block / 64, now, 0).to_vec(),
-                _ => Vec::new(),
-            };
-            let data: &[u8] = if kind == WRITE { &[0; 512] } else { &[] };
-            let mut answer = [0; 544];
-            let sent = Command { kind, block, now, value, data, proof: &proof };
-            assert_eq!(command::<OwnDigest>(&mut self.memory, &mut self.disk, &sent, &mut answer), 0);
-            answer
-        }
-
         /// The list shows these bytes and reads so many pages.
         fn shows(&mut self, numbers: &[u32], now: u32, pages: u32, shown: &[[u8; 9]]) {
             let blocks: Vec<u8> = numbers.iter().flat_map(|number| number.to_le_bytes()).collect();

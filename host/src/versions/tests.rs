@@ -72,6 +72,42 @@ fn the_sixty_third_put_stores_the_log() {
     assert_eq!(s.state[1040..], [0xFF; 496]);
 }
 
+/// 63 versions and the log block are 64 updates: with the last of them the page leaves, inside the put.
+#[test]
+fn a_page_leaves_inside_a_put() {
+    let mut s = Store::new(2, 500);
+    for put in 1..=62 {
+        assert_eq!(s.puts(put, 1000, 1), Ok(put));
+        assert_eq!(s.memory[100..104], [2, 0, put as u8, 0]);
+    }
+    assert_eq!(s.disk[64 * 512..65 * 512], [0, 0, 0, 0, 1, 0, 0, 0].repeat(64));
+    let mut refused = s.clone();
+    refused.set(4, 9);
+    let before = refused.clone();
+    assert_eq!(refused.puts(63, 1000, 1), Err(Refusal { number: 9, command: 2 }));
+    assert_eq!(refused, before);
+    assert_eq!(s.puts(63, 1000, 1), Ok(63));
+    assert_eq!(s.memory[100..104], [2, 255, 0, 0]);
+    assert_eq!(s.memory[104..], [0; 512]);
+    assert_eq!(s.disk[64 * 512..65 * 512], [0xF4, 0x01, 0, 0, 0xD0, 0x07, 0, 0].repeat(64));
+}
+
+/// With 63 updates the write lets the page leave; then the replaced version is refused, and the page is back.
+#[test]
+fn a_page_that_left_is_taken_back() {
+    let mut s = Store::new(1, 500);
+    assert_eq!(s.puts(7, 1000, 1), Ok(1));
+    s.memory[102] = 63;
+    s.set(16 + 4 * 9, 20);
+    let before = s.clone();
+    assert_eq!(s.puts(9, 1001, 2), Err(Refusal { number: 9, command: 2 }));
+    assert_eq!(s, before);
+    assert_eq!(s.puts(7, 1001, 2), Ok(2));
+    assert_eq!(s.memory[100..104], [1, 0, 1, 0]);
+    assert_eq!(s.disk[64 * 512 + 8..][..16], [0xF4, 0x01, 0, 0, 0xD0, 0x07, 0, 0, 0xF4, 0x01, 0, 0, 0xD2, 0x07, 0, 0]);
+    assert_eq!(s.memory[112..120], [0xDE, 0x05, 0, 0, 0xD1, 0x07, 0, 0]);
+}
+
 /// The version would go to group 0, for which group 1's held page leaves; the replaced one, and the log block, are refused.
 #[test]
 fn commands_before_a_refusal_are_taken_back() {

@@ -5,7 +5,7 @@ use crate::controller::{self, Command, Digest, PAGE};
 const BLOCK_SIZE: usize = 512;
 const GROUP_DATA: u32 = 64;
 const PROOF_SIZE: usize = 544;
-/// Three commands, and at each the block and the page of another group.
+/// Three commands, and at each the block and the held page, which leaves for another group's or by itself.
 const MOST_STORES: usize = 6;
 
 pub struct Trial<'a> {
@@ -67,7 +67,8 @@ impl<'a> Trial<'a> {
         }
     }
 
-    /// Keeps what an update may store on: the block, and the page of the group that is held.
+    /// Keeps what an update may store on: the block, and the page of the group that is held. A page that is not held yet
+    /// does not leave with its first update.
     fn keep(&mut self, block: u32) {
         let held = self.memory[101] as usize;
         if held != 255 {

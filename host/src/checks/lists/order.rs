@@ -50,7 +50,8 @@ fn spoiled(memory: &mut [u8], disk_len: usize, no: &[u32], turn: usize) -> List 
     }
     if no.contains(&1) {
         match turn % 4 {
-            0 => memory[102] = 1,
+            // More updates than a held page can have, and some where none is held.
+            0 => memory[102] += 1,
             1 => memory[103] = 1,
             2 => list.memory_len = Some(615),
             _ => list.memory_len = Some(617),

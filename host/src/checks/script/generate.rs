@@ -9,6 +9,8 @@ use std::io::Write;
 
 /// How often each kind comes, in order, of 100; the rest are kinds that there are not.
 const WEIGHTS: [usize; 10] = [9, 17, 3, 22, 16, 15, 5, 4, 3, 3];
+/// The same in a script that forgets to sync, so that pages leave by themselves.
+const FORGETFUL: [usize; 10] = [6, 15, 2, 28, 22, 22, 0, 1, 0, 2];
 const UNKNOWN: [u32; 8] = [0, 11, 255, 256 + 1, 256 + 4, 65_536 + 2, LATEST + 5, u32::MAX];
 const LIMITS: [u32; 8] = [0, 1, LATEST - 1, LATEST, LATEST + 1, LATEST + 2, u32::MAX - 1, u32::MAX];
 const LAST_EXPIRY: i64 = 4_294_967_295;
@@ -25,6 +27,14 @@ pub fn mixed(random: &mut Random, lines: usize, late: bool) -> Vec<u8> {
         let line = if late && place == 3 { maker.jump() } else { maker.line() };
         push_line(&mut script, &line);
     }
+    script
+}
+
+/// One that forgets to sync.
+pub fn forgetful(random: &mut Random, lines: usize) -> Vec<u8> {
+    let mut maker = Maker { weights: &FORGETFUL, ..Maker::new(random) };
+    let mut script = header();
+    (0..lines).for_each(|_| push_line(&mut script, &maker.line()));
     script
 }
 
@@ -57,11 +67,12 @@ fn one_of<const N: usize>(random: &mut Random, choices: [u32; N]) -> u32 {
 pub struct Maker<'a> {
     random: &'a mut Random,
     tried: DepotBox,
+    weights: &'static [usize; 10],
 }
 
 impl<'a> Maker<'a> {
     pub fn new(random: &'a mut Random) -> Self {
-        Maker { random, tried: DepotBox::formatted() }
+        Maker { random, tried: DepotBox::formatted(), weights: &WEIGHTS }
     }
 
     pub fn line(&mut self) -> Line {
@@ -91,7 +102,7 @@ impl<'a> Maker<'a> {
     }
 
     fn kind(&mut self) -> u32 {
-        match self.random.weighted(&WEIGHTS) {
+        match self.random.weighted(self.weights) {
             Some(place) => place as u32 + 1,
             None => one_of(self.random, UNKNOWN),
         }
@@ -192,5 +203,25 @@ impl<'a> Maker<'a> {
             // Often refused by 9, at a time to which the box then does not come.
             _ => line.now = (last + 1 + self.random.below(100) as u32).min(LATEST),
         }
+    }
+}
+
+#[cfg(test)]
+mod tests {
+    use super::{Maker, FORGETFUL};
+    use crate::random::Random;
+
+    /// In some thousand lines of a script that forgets to sync, pages leave by themselves.
+    #[test]
+    fn pages_leave_in_forgetful_scripts() {
+        let mut random = Random::new(1);
+        let mut maker = Maker { weights: &FORGETFUL, ..Maker::new(&mut random) };
+        let mut left = 0;
+        for _ in 0..5000 {
+            let held = maker.tried.updates();
+            let kind = maker.line().kind;
+            left += usize::from(held == 63 && maker.tried.updates() == 0 && (4..=6).contains(&kind));
+        }
+        assert!(left >= 10, "{left} pages have left");
     }
 }

@@ -1,5 +1,5 @@
 //! Generated scripts of many lengths.
-use super::generate::mixed;
+use super::generate::{forgetful, mixed};
 use super::tester::Tester;
 use crate::checks::Checked;
 use crate::random::Random;
@@ -14,8 +14,11 @@ pub fn check(tester: &mut Tester, seed: u64, count: usize) -> Checked {
     while lines < count {
         let longest = LENGTHS[random.below(LENGTHS.len())];
         let length = random.below(longest).min(count - lines);
-        let late = random.below(4) == 0;
-        let mut script = mixed(&mut random, length, late);
+        let mut script = match random.below(4) {
+            0 => mixed(&mut random, length, true),
+            1 => forgetful(&mut random, length),
+            _ => mixed(&mut random, length, false),
+        };
         if random.below(3) == 0 {
             script.pop();
         }

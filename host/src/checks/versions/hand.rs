@@ -41,6 +41,7 @@ pub fn check() -> Checked {
     start()?;
     three_puts()?;
     full_log()?;
+    leaving()?;
     refusals()?;
     Ok("versions by hand".into())
 }
@@ -116,9 +117,28 @@ fn full_log() -> Result<(), String> {
     let newest = [63, 0, 0, 0, 61, 0, 0, 0, 62, 0, 0, 0, 0xFF, 0xFF, 0xFF, 0xFF];
     same("the newest blocks", &s.state[16..32], &newest)?;
     same("no records", &s.state[1040..], &[0xFF; 496])?;
-    // 63 versions, 60 unfreezes and the log block.
+    // 63 versions, 60 unfreezes and the log block: after 64 of these 124 updates the page has left by itself.
     same("the counts", &s.a.memory[32..40], &[124, 0, 0, 0, 0, 0, 0, 0])?;
-    s.puts(9, 1064, 99, 65)
+    same("G, held and updates", &s.a.memory[100..104], &[2, 0, 60, 0])?;
+    s.puts(9, 1064, 99, 65)?;
+    same("G, held and updates", &s.a.memory[100..104], &[2, 1, 1, 0])
+}
+
+/// Sixty-three puts of as many parts, and the log block with the last of them: the page leaves with it, and a restart loses nothing.
+fn leaving() -> Result<(), String> {
+    let mut s = Store::started(2)?;
+    (1..=62).try_for_each(|put| s.puts(put, 1000, put as u8, put as u64))?;
+    same("G, held and updates", &s.a.memory[100..104], &[2, 0, 62, 0])?;
+    same("block 1's entry on the disk", &s.a.disk[64 * 512 + 8..][..8], &[0, 0, 0, 0, 1, 0, 0, 0])?;
+    s.puts(63, 1000, 63, 63)?;
+    same("G, held and updates", &s.a.memory[100..104], &[2, 255, 0, 0])?;
+    same("the held page", &s.a.memory[104..], &[0; 512])?;
+    same("the count", &s.a.memory[32..36], &[64, 0, 0, 0])?;
+    let entry = [0xF4, 0x01, 0, 0, 0xD0, 0x07, 0, 0];
+    same("the page on the disk", &s.a.disk[64 * 512..65 * 512], &entry.repeat(64))?;
+    s.a.gets(8, 0, 1001, 0, 0)?;
+    s.reads("the newest version of part 63", 63, 1001, &[63; 512])?;
+    s.a.shows(63, 1001, [0xF4, 0x01, 0, 0, 0xD0, 0x07, 0, 0, 0xF4, 0x01, 0, 0, 0, 0, 0, 0, 1])
 }
 
 /// Each number once; after each of them the same put is still to come.

@@ -89,9 +89,9 @@ impl Office<'_> {
     fn with_poke(&mut self, call: impl FnOnce(&mut Self) -> Result<(), String>) -> Result<(), String> {
         match self.random.below(6) {
             0 => {
-                self.stores.pair.change_memory(|memory| memory[102] ^= 1);
+                self.stores.pair.change_memory(|memory| memory[103] ^= 1);
                 call(self)?;
-                self.stores.pair.change_memory(|memory| memory[102] ^= 1);
+                self.stores.pair.change_memory(|memory| memory[103] ^= 1);
             }
             1 => {
                 let right = self.stores.state().to_vec();
@@ -174,12 +174,14 @@ impl Office<'_> {
         }
     }
 
-    /// A count that is nearly spent, an entry of the part's version or of the reserve, or few free blocks.
+    /// A count that is nearly spent, an entry of the part's version or of the reserve, few free blocks, or a held page that is
+    /// to leave soon.
     fn change_box(&mut self, made: &mut Snapshot, part: u32, now: u32) {
         let blocks = made.blocks();
         let version = made.newest(part).filter(|block| *block < blocks).unwrap_or(0);
-        match self.random.below(5) {
+        match self.random.below(7) {
             0 => set_count(&mut made.memory, self.random.below(blocks as usize / 64), self.nearly_spent()),
+            5 | 6 if made.held() != 255 => made.memory[102] = 61 + self.random.below(3) as u8,
             1 | 2 => made.set_entry(version, [(u32::MAX - now, 8), (now, 9), (0, 8)][self.random.below(3)]),
             3 => made.set_entry(made.reserve() % blocks, [(0, 1), (9, 8)][self.random.below(2)]),
             _ => self.leave_free(made, now),
@@ -191,10 +193,14 @@ impl Office<'_> {
     }
 
     /// A log that is full but for a record or two: with the last block of a group to be taken next, with a count that is
-    /// nearly spent, with a version of lock 0 near the next block, or with the reserve as the part's version.
+    /// nearly spent, with a version of lock 0 near the next block, or with the reserve as the part's version. The reserve's
+    /// page, if held, is to leave soon.
     fn fill_log(&mut self, made: &mut Snapshot, part: u32) {
         let blocks = made.blocks();
         let (any, reserve) = (self.random.below(blocks as usize) as u32, made.reserve() % blocks);
+        if made.held() == reserve / 64 {
+            made.memory[102] = 61 + self.random.below(3) as u8;
+        }
         match self.random.below(4) {
             0 => {
                 set_records(&mut made.state, &vec![(part, any); [1, 60, 61, 62][self.random.below(4)]]);

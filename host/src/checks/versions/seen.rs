@@ -12,7 +12,7 @@ const CALLS: [(&str, &[u32]); 4] = [
 const NUMBERS: usize = 15;
 
 /// What a run has to have seen.
-const SITUATIONS: [&str; 65] = [
+const SITUATIONS: [&str; 70] = [
     "a box of 1 group", "a box of 2 groups", "a box of 16 groups",
     // A put, accepted.
     "a block that was never written taken", "a lapsed block taken",
@@ -23,16 +23,17 @@ const SITUATIONS: [&str; 65] = [
     "the log block with a version replaced", "the log block without one", "the log block in the version's group",
     "the log block in another group", "the next reserve in another group",
     "the next reserve is the version replaced", "at the last time", "at the latest time",
+    "a page leaves at the write", "a page leaves at the unfreeze", "a page leaves at the log block",
     // A put, refused.
     "one block free besides the reserve", "one block free, and the reserve", "no block free", "time gone back",
     "time over the limit", "content of a wrong length", "8 at the write", "8 at the unfreeze", "8 at the log block",
     "8 at the unfreeze by the write's count", "9 at the unfreeze", "9 at the log block", "9 at an unfreeze of the reserve",
     "9 at the log block by the unfreeze before it", "5 at the unfreeze", "5 at the log block", "10 at the unfreeze",
-    "13 with all else wrong", "invalid state", "invalid memory",
+    "13 with all else wrong", "invalid state", "invalid memory", "a page leaves before a command that is refused",
     // A flush.
     "a flush without records", "a flush without records, invalid memory", "a flush of one record",
     "a flush of 62 records", "a flush, invalid state", "a flush, invalid memory", "a flush to a reserve that is not free",
-    "a flush to a reserve out of the box", "a flush with its count spent",
+    "a flush to a reserve out of the box", "a flush with its count spent", "a page leaves in a flush",
     // Others' commands.
     "the reserve written by others", "a newest version unfrozen by others", "a newest version lengthened by others",
     "a newest version's block written by others", "a record's part put again", "restart", "restart with a page held",

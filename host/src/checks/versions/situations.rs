@@ -101,11 +101,32 @@ fn of_groups(seen: &mut Seen, before: &Snapshot, replaced: Option<u32>, block: u
     seen.note("the log block in another group", log && before.reserve() / 64 != group);
     seen.note("the next reserve in another group", log && reserve / 64 != group);
     seen.note("the next reserve is the version replaced", log && replaced == Some(reserve));
+    let old = replaced.map(|old| old / 64);
+    let stored = log.then_some(before.reserve() / 64);
+    let left = left_at(before, &[Some(group), old, stored]);
+    seen.note("a page leaves at the write", left == Some(0));
+    seen.note("a page leaves at the unfreeze", left == Some(1));
+    seen.note("a page leaves at the log block", left == Some(2));
+}
+
+/// At which of the commands, to these groups in order, the held page leaves by itself.
+fn left_at(before: &Snapshot, groups: &[Option<u32>]) -> Option<usize> {
+    let (mut held, mut updates) = (before.held(), before.updates());
+    groups.iter().position(|group| {
+        let Some(group) = *group else {
+            return false;
+        };
+        updates = if group == held { updates + 1 } else { 1 };
+        held = group;
+        updates == 64
+    })
 }
 
 /// A put of which a command was refused.
 fn of_command_refused(seen: &mut Seen, before: &Snapshot, put: &Put, replaced: Option<u32>, refusal: Refusal) {
     let reserve = before.reserve();
+    let one_group = before.blocks() == 64 && before.held() == 0;
+    seen.note("a page leaves before a command that is refused", one_group && before.updates() + refusal.command > 64);
     match (role(refusal.command, replaced.is_some()), refusal.number) {
         (Role::Write, 6) => seen.note("content of a wrong length", put.content.len() != 512),
         (Role::Write, 8) => seen.note("8 at the write", true),
@@ -133,13 +154,15 @@ fn of_command_refused(seen: &mut Seen, before: &Snapshot, put: &Put, replaced: O
 
 pub fn of_flush(seen: &mut Seen, before: &Snapshot, now: u32, done: Result<(), Refusal>) {
     let pending = if before.state.len() == STATE { before.pending() } else { 0 };
-    let memory_invalid = before.memory.len() != 616 || before.memory[102] != 0;
+    let memory_invalid = before.memory.len() != 616 || before.memory[103] != 0;
     match done {
         Ok(()) => {
             seen.note("a flush without records", pending == 0);
             seen.note("a flush without records, invalid memory", pending == 0 && memory_invalid);
             seen.note("a flush of one record", pending == 1);
             seen.note("a flush of 62 records", pending == MOST_PENDING);
+            let left = pending > 0 && left_at(before, &[Some(before.reserve() / 64)]).is_some();
+            seen.note("a page leaves in a flush", left);
         }
         Err(Refusal { number: 1, .. }) => {
             seen.note("a flush, invalid state", !memory_invalid);

@@ -22,6 +22,11 @@ impl Snapshot {
         self.memory[101] as u32
     }
 
+    /// The updates to the held page.
+    pub fn updates(&self) -> u32 {
+        self.memory[102] as u32
+    }
+
     pub fn lock(&self) -> u32 {
         number(&self.state, LOCK_AT)
     }
