@@ -19,10 +19,11 @@
  * - Nobody else writes them.
  * Then a lock holds through everything that a server sends from the moment that the write is accepted, and it outlasts a restart
  * once its page is on the disk: by a sync, by a new salt, because another group's page took its place, or by itself, with the
- * SOCKJADE_MOST_UPDATES-th update to it since it was taken in. examples/service/ is a model.
+ * 64th update to it since it came in. So a power cut between two commands loses at most the last SOCKJADE_MOST_UPDATES updates of
+ * one group. examples/service/ is a model.
  *
  * The memory's bytes: 0 salt; 32 a freshness count of 4 bytes for each of 16 groups; 96 last time; 100 groups; 101 the held group, or
- * 255 for none; 102 the updates to the held page, 1 to SOCKJADE_MOST_UPDATES - 1, or 0 for none; 103 zero; 104 the held page.
+ * 255 for none; 102 the updates to the held page, 1 to SOCKJADE_MOST_UPDATES, or 0 for none; 103 zero; 104 the held page.
  *
  * An operator's step: a memory from before byte 102 counted (document 02, Q-4) has 0 there, and with a page held it gets
  * SOCKJADE_MEMORY_INVALID. So every box is synced, by SOCKJADE_SYNC, before its service is linked with a library that counts; one that
@@ -94,7 +95,7 @@ enum {
     SOCKJADE_NUMBER_SIZE = 4,          /* of a block number in a list */
     SOCKJADE_SHOWN_SIZE = 9,           /* answered for each number of a list: state, time left (signed, 8 bytes) */
     SOCKJADE_MOST_NUMBERS = 64,        /* in a list */
-    SOCKJADE_MOST_UPDATES = 64,        /* to a held page: with this one it goes to the disk by itself */
+    SOCKJADE_MOST_UPDATES = 63,        /* to a held page: with one more it goes to the disk by itself */
     SOCKJADE_MOST_GROUPS = 16,
     SOCKJADE_BLOCKS_PER_GROUP = 64,
     SOCKJADE_VERSIONS_SIZE = 1536,     /* of a version store's state */

@@ -260,7 +260,7 @@ fn change<D: Digest>(
     memory.raise_count(group);
     answer[..PAGE_SIZE].copy_from_slice(memory.held_page());
     answer[PAGE_SIZE..].copy_from_slice(&tag::<D>(memory, group, memory.held_page()));
-    if memory.updates() == MOST_UPDATES {
+    if memory.updates() > MOST_UPDATES {
         put_held(memory, disk);
     }
 }

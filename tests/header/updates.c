@@ -31,14 +31,14 @@ static void test_counted(void) {
         accept_update("increment", &box, SOCKJADE_INCREMENT, 64, 1000, 1);
     }
     check_hex("memory after 63 updates", box.memory + 96, "E8 03 00 00 02 01 3F 00 3E 00 00 00 D0 07 00 00");
-    check_number("the most updates to a held page", box.memory[102], SOCKJADE_MOST_UPDATES - 1, 63);
+    check_number("the most updates to a held page", box.memory[102], SOCKJADE_MOST_UPDATES, 63);
     check_blank("disk's page after 63 updates", box.disk + PAGE_1, 64);
 }
 
 /* The tag is from b3sum: perl -e 'print pack("C*", 0 .. 31), pack("Q<", 1), pack("L<", 64), pack("L<L<", 63, 2000),
  * pack("L<L<", 0, 1) x 63' | b3sum --no-names */
 static void test_leaves(void) {
-    update_group_1(SOCKJADE_MOST_UPDATES);
+    update_group_1(SOCKJADE_MOST_UPDATES + 1);
     check_none_held("memory after 64 updates");
     check_hex("counts after 64 updates", box.memory + 32, "00 00 00 00 40 00 00 00");
     check_hex("page that left", box.disk + PAGE_1, "3F 00 00 00 D0 07 00 00");
@@ -52,13 +52,13 @@ static void test_leaves(void) {
 
 /* "after any data": both are on the disk. An unfreeze as the 64th has none. */
 static void test_other_kinds(void) {
-    update_group_1(SOCKJADE_MOST_UPDATES - 1);
+    update_group_1(SOCKJADE_MOST_UPDATES);
     accept_update("write as the 64th", &box, SOCKJADE_WRITE, 127, 1000, 9);
     check_none_held("memory after a 64th write");
     check_filled("data of a 64th write", box.disk + BLOCK_127, 0x61, 512);
     check_hex("first entry of the page that left", box.disk + PAGE_1, "3E 00 00 00 D0 07 00 00");
     check_hex("last entry of the page that left", box.disk + PAGE_1 + 63 * 8, "09 00 00 00 D0 07 00 00");
-    update_group_1(SOCKJADE_MOST_UPDATES - 1);
+    update_group_1(SOCKJADE_MOST_UPDATES);
     accept_update("unfreeze as the 64th", &box, SOCKJADE_UNFREEZE, 64, 1000, 0);
     check_none_held("memory after a 64th unfreeze");
     check_hex("entry unfrozen on the disk", box.disk + PAGE_1, "27 04 00 00 D1 07 00 00"); /* 1,000 + 62 + 1 = 1,063 */
@@ -66,12 +66,12 @@ static void test_other_kinds(void) {
 
 /* A restart loses 63 updates, and of 64 none: then its count stays, too. */
 static void test_restarted(void) {
-    update_group_1(SOCKJADE_MOST_UPDATES - 1);
+    update_group_1(SOCKJADE_MOST_UPDATES);
     accept_command("restart", &box, make_command(SOCKJADE_RESTART, 0, 1000, 0));
     check_none_held("memory after 63 updates and a restart");
     check_blank("page after 63 updates and a restart", box.disk + PAGE_1, 64);
     check_hex("counts after 63 updates and a restart", box.memory + 32, "00 00 00 00 40 00 00 00");
-    update_group_1(SOCKJADE_MOST_UPDATES);
+    update_group_1(SOCKJADE_MOST_UPDATES + 1);
     accept_command("restart", &box, make_command(SOCKJADE_RESTART, 0, 1000, 0));
     check_none_held("memory after 64 updates and a restart");
     check_hex("page after 64 updates and a restart", box.disk + PAGE_1, "3F 00 00 00 D0 07 00 00");
@@ -82,13 +82,13 @@ static void test_restarted(void) {
 static void test_counted_anew(void) {
     static const uint32_t kinds[] = {SOCKJADE_SYNC, SOCKJADE_RESTART, SOCKJADE_NEW_SALT};
     for (size_t i = 0; i < sizeof kinds / sizeof kinds[0]; i++) {
-        update_group_1(SOCKJADE_MOST_UPDATES - 1);
+        update_group_1(SOCKJADE_MOST_UPDATES);
         accept_command("sync, restart or new salt", &box, make_command(kinds[i], 0, 1000, 0));
         check_none_held("memory after it");
         accept_update("write after it", &box, SOCKJADE_WRITE, 65, 1000, 9);
         check_hex("memory after a write after it", box.memory + 100, "02 01 01 00");
     }
-    update_group_1(SOCKJADE_MOST_UPDATES - 1);
+    update_group_1(SOCKJADE_MOST_UPDATES);
     accept_update("write in another group", &box, SOCKJADE_WRITE, 0, 1000, 9);
     check_hex("memory after it", box.memory + 100, "02 00 01 00");
     accept_update("increment in the first group", &box, SOCKJADE_INCREMENT, 64, 1000, 1);
@@ -97,7 +97,7 @@ static void test_counted_anew(void) {
 
 /* What is refused, or only looks, is no update. */
 static void test_not_counted(void) {
-    update_group_1(SOCKJADE_MOST_UPDATES - 1);
+    update_group_1(SOCKJADE_MOST_UPDATES);
     refuse_update("write a frozen block", &box, make_command(SOCKJADE_WRITE, 64, 1000, 1), SOCKJADE_STATE_WRONG, 9);
     box.proof[543] ^= 1;
     refuse_command("a wrong tag", &box, make_command(SOCKJADE_WRITE, 65, 1000, 1), SOCKJADE_TAG_WRONG, 7);
@@ -124,13 +124,13 @@ static void refuse_updates(const char *what, uint8_t updates, uint8_t zero) {
 /* "Validity in question 1 gains this; boxes are synced before the change": one with a page held has 0 there, and gets 1. */
 static void test_validity(void) {
     refuse_updates("a page held from before the change", 0, 0);
-    refuse_updates("64 updates", SOCKJADE_MOST_UPDATES, 0);
+    refuse_updates("64 updates", SOCKJADE_MOST_UPDATES + 1, 0);
     refuse_updates("65 updates", 65, 0);
     refuse_updates("129 updates", 129, 0);
     refuse_updates("255 updates", 255, 0);
     refuse_updates("byte 103", 1, 1);
     update_group_1(1);
-    box.memory[102] = SOCKJADE_MOST_UPDATES - 1;
+    box.memory[102] = SOCKJADE_MOST_UPDATES;
     accept_update("with 63 updates, one more", &box, SOCKJADE_INCREMENT, 64, 1000, 1);
     check_none_held("memory after it");
 }

@@ -5,8 +5,8 @@ pub const PAGE_SIZE: usize = 512;
 pub const LATEST: u32 = 2_147_483_647;
 /// No update is accepted from this count on.
 pub const LAST_COUNT: u32 = 4_294_967_294;
-/// With so many updates a held page leaves, by document 02's Q-4: a valid memory has fewer.
-pub const MOST_UPDATES: u8 = 64;
+/// A held page has had so many updates at most, by document 02's Q-4: with one more it leaves.
+pub const MOST_UPDATES: u8 = 63;
 
 pub type Page = [u8; PAGE_SIZE];
 
@@ -58,7 +58,7 @@ impl Memory {
         match self.held() {
             None => self.updates() == 0 && self.0[PAGE..] == [0; PAGE_SIZE],
             Some(group) => {
-                let counted = (1..MOST_UPDATES).contains(&self.updates());
+                let counted = (1..=MOST_UPDATES).contains(&self.updates());
                 group < groups && counted && (1..=LAST_COUNT).contains(&self.count(group))
             }
         }
