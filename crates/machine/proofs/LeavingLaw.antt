@@ -147,18 +147,6 @@ module _ {γ : Geometry} (σ : Proper γ) where
 
   -- ---- an update's stores
 
-  -- what holds of the held page's, of the data's and of the changed page's holds of each
-  pub each-change : (P : Store → Type 0) (u : Update) (s : Box) (c : Command) → EachStore P (putHeld γ (s .memory))
-      → EachStore P (putContent γ u (c .block) (c .content)) → P (store (pageBlock γ (groupOf γ (c .block))) (changedPage γ u c))
-      → EachStore P (change γ u s c .stores)
-  unfolding change
-  each-change P u s c evicted content leaving =
-      let m = s .memory in
-      let g = groupOf γ (c .block) in
-      let p = changedPage γ u c in
-      each-append P (evict γ m g) (putContent γ u (c .block) (c .content) ++ putLeaving γ m g p) (each-evicted σ P m g evicted)
-      (each-append P (putContent γ u (c .block) (c .content)) (putLeaving γ m g p) content (each-leaving P m g p (λ e. leaving)))
-
   -- where another group is held, its page goes first
   pub held-first : HeldPageFirst γ
   unfolding HeldPageFirst change putContent
@@ -176,3 +164,15 @@ module _ {γ : Geometry} (σ : Proper γ) where
       let p = changedPage γ (Write lock) c in
       ap₂ (λ (xs ys : List Store). xs ++ (store (physical γ (c .block)) (c .content) ∷ ys))
       (evict-same σ (s .memory) g e) (put-leaving (s .memory) g p (many-leaves (s .memory) g (omega (arith, next-same (s .memory) g e))))
+
+  -- what holds of the held page's, of the data's and of the changed page's holds of each
+  pub each-change : (P : Store → Type 0) (u : Update) (s : Box) (c : Command) → EachStore P (putHeld γ (s .memory))
+      → EachStore P (putContent γ u (c .block) (c .content)) → P (store (pageBlock γ (groupOf γ (c .block))) (changedPage γ u c))
+      → EachStore P (change γ u s c .stores)
+  unfolding change
+  each-change P u s c evicted content leaving =
+      let m = s .memory in
+      let g = groupOf γ (c .block) in
+      let p = changedPage γ u c in
+      each-append P (evict γ m g) (putContent γ u (c .block) (c .content) ++ putLeaving γ m g p) (each-evicted σ P m g evicted)
+      (each-append P (putContent γ u (c .block) (c .content)) (putLeaving γ m g p) content (each-leaving P m g p (λ e. leaving)))

@@ -249,11 +249,13 @@ module _ {γ : Geometry} (σ : Proper γ) where
       record {
         back = record { earlier = []; last = es; split = refl; page = page ∙ b .disk ∙ sym (current-other σ s g n) };
         few = omega (arith, b .counted);
+        held-only = λ other. omega (arith, b .counted, unsaved-none t g other);
       })
       (λ v.
       record {
         back = record { earlier = v .earlier; last = v .last; split = v .split; page = page ∙ v .disk };
         few = omega (arith, v .counted);
+        held-only = λ other. omega (arith, v .counted, unsaved-none t g other);
       })
       (run-behind g (group-some t r k a g here) s es)
 

@@ -58,10 +58,11 @@ module _ (γ : Geometry) where
     pub split : es ≡ earlier ++ last
     pub page : currentPage γ (step γ (run γ s es) r .box) g ≡ currentPage γ (run γ s earlier) g
 
-  -- and these are at most 63
+  -- and these are at most 63, and none where r finds another group's page held, or none
   pub record LosesFew (s : Box) (es : List Event) (g : ℕ) (r : Command) : Type 0 where
     pub back : FallsBack s es g r
     pub few : updatesIn g (run γ s (back .earlier)) (back .last) ≤ mostUpdates
+    pub held-only : (held γ (run γ s es .memory) ≡ g → ⊥) → updatesIn g (run γ s (back .earlier)) (back .last) ≡ 0
 
   -- whatever the events, from a box that does not hold the group's page
   unfoldable pub RestartLosesFew : Type 0

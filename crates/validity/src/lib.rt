@@ -24,7 +24,8 @@ fn valid_held(memory: &[u8]) -> bool
         }
         return held_page::is_zero(memory);
     }
-    if memory::groups(memory) <= group {
+    let groups = memory::groups(memory);
+    if groups <= group {
         return false;
     }
     let count = memory::count(memory, group);
