@@ -44,7 +44,7 @@ use Rattle.machine.proofs.TagLaw.{tagged-length, tagged-page, tagged-ta
 use Rattle.machine.proofs.PassedLaw.{Timely, passed, in-time, timed-reads}
 use Rattle.machine.proofs.ValidBoxLaw.{accepted-valid}
 use Rattle.machine.proofs.TimedLaw.{current-timed}
-use Rattle.machine.proofs.AfterLaw.{accepted-after, own-page, own-count, own-held, own-left, own-on-disk, lost-count}
+use Rattle.machine.proofs.AfterLaw.{accepted-after, own-page, own-count, own-held, own-on-disk, lost-count}
 use Rattle.machine.proofs.LeavingLaw.{new-stays}
 use Rattle.machine.proofs.AnswerLaw.{entry-answer}
 
@@ -64,7 +64,7 @@ pub record Known (time counted holds : ℕ) (now-entry disk-entry : PageEntry) (
   pub on-disk : OnPage disk-entry (block base (s .disk) (pageBlock base 0))
 
 -- group 0's page on a disk is the current one where none is held
-page-on-disk : (t : Box) → held base (t .memory) ≡ none → block base (t .disk) (pageBlock base 0) ≡ currentPage base t 0
+pub page-on-disk : (t : Box) → held base (t .memory) ≡ none → block base (t .disk) (pageBlock base 0) ≡ currentPage base t 0
 page-on-disk t n = sym (current-other base-proper t 0 (λ e. omega arith))
 
 -- ---- an update of block 0 that brings the current page
@@ -126,7 +126,7 @@ module _ {time counted holds : ℕ} {e d : PageEntry} {s : Box} (h : Known time 
   module _ (u : Update) (kind now value : ℕ) (content : List ℕ) (k : kindNumbered kind value ≡ Change u)
       (r : refusal base s (updating s kind now value content) ≡ 0) (fits : EntryFits (updated u now e)) where
     -- the page after it
-    updated-page : OnPage (updated u now e) (currentPage base (step base s (updating s kind now value content) .box) 0)
+    pub updated-page : OnPage (updated u now e) (currentPage base (step base s (updating s kind now value content) .box) 0)
     unfolding groupOf placeOf updatedPage
     updated-page =
         let c = updating s kind now value content in
@@ -158,24 +158,6 @@ module _ {time counted holds : ℕ} {e d : PageEntry} {s : Box} (h : Known time 
           held-is = own-held base-proper u s c k r stays;
           current = updated-page;
           on-disk = subst (OnPage d) (sym (own-on-disk base-proper u s c k r stays)) (h .on-disk);
-        }
-
-    -- it has left
-    pub left-known : pageLeaves base (s .memory) 0 ≡ true
-        → Known now (counted + 1) none (updated u now e) (updated u now e) (step base s (updating s kind now value content) .box)
-    unfolding groupOf
-    left-known leaves =
-        let c = updating s kind now value content in
-        let a = accepted-after base-proper s c r in
-        let left = own-left base-proper u s c k r leaves in
-        record {
-          valid = accepted-valid base-proper s c r;
-          one = a .same-groups ∙ h .one;
-          last = a .time;
-          count-is = own-count base-proper u s c k r ∙ ap (λ (n : ℕ). n + 1) (h .count-is);
-          held-is = left;
-          current = updated-page;
-          on-disk = subst (OnPage (updated u now e)) (sym (page-on-disk (step base s c .box) left)) updated-page;
         }
 
   -- a page that comes in is held

@@ -1,5 +1,5 @@
 -- The run of specs/ExampleLeaving.antt: each increment is accepted and counted, and with the 64th update the page leaves. Assumes nothing.
-use mathlib.Core.Path.{_≡_, refl, ap, ap₂, subst, _∙_}
+use mathlib.Core.Path.{_≡_, refl, ap, ap₂, sym, subst, _∙_}
 use mathlib.Core.Bool.{Bool, true, false, _&&_}
 use mathlib.Core.List.{List, []}
 use Prim.Native.Nat.{ℕ, zero, suc, _+_, _≤_, _<_}
@@ -27,8 +27,9 @@ use Rattle.machine.specs.Example.{formattedBox, writing, writtenBox, IsA
 use Rattle.machine.specs.ExampleLeaving.{incrementing, increments, restartingLate, incremented, LeavingMet}
 use Rattle.machine.proofs.StepLaw.{step-number}
 use Rattle.machine.proofs.LeavingLaw.{next-same, next-new, few-stays, many-leaves}
-use Rattle.machine.proofs.AfterLaw.{accepted-after}
-use Rattle.machine.proofs.ExampleLaw.{Known, served, updated-known, left-known, comes-in, restart-served}
+use Rattle.machine.proofs.AfterLaw.{accepted-after, own-count, own-left}
+use Rattle.machine.proofs.ValidBoxLaw.{accepted-valid}
+use Rattle.machine.proofs.ExampleLaw.{OnPage, Known, page-on-disk, served, updated-page, updated-known, comes-in, restart-served}
 use Rattle.machine.proofs.ExampleRun.{known-formatted, writing-served, known-written}
 
 -- block 0 is written, its page held and updated m times
@@ -66,10 +67,22 @@ module _ (m : ℕ) (s : Box) (h : Holding m s) (few : m ≤ mostUpdates) where
       }
 
   last-one : m ≡ mostUpdates → Known 1000 (m + 1) none (entry 500 2000) (entry 500 2000) (step base s (incrementing s) .box)
-  unfolding kindNumbered timeOfWrite updated
+  unfolding kindNumbered timeOfWrite updated groupOf
   last-one full =
-      left-known (h .known) (Increment 0) 6 1000 0 [] refl increment-served (record { word = lit< tt; stamp = lit< tt })
-      (many-leaves base-proper (s .memory) 0 (omega (arith, next)))
+      let c = incrementing s in
+      let a = accepted-after base-proper s c increment-served in
+      let left = own-left base-proper (Increment 0) s c refl increment-served (many-leaves base-proper (s .memory) 0 (omega (arith, next))) in
+      let page =
+      updated-page (h .known) (Increment 0) 6 1000 0 [] refl increment-served (record { word = lit< tt; stamp = lit< tt }) in
+      record {
+        valid = accepted-valid base-proper s c increment-served;
+        one = a .same-groups ∙ h .known .one;
+        last = a .time;
+        count-is = own-count base-proper (Increment 0) s c refl increment-served ∙ ap (λ (n : ℕ). n + 1) (h .known .count-is);
+        held-is = left;
+        current = page;
+        on-disk = subst (OnPage (entry 500 2000)) (sym (page-on-disk (step base s c .box) left)) page;
+      }
 
   -- and more behind it
   row-on : (n : ℕ) → Row n (step base s (incrementing s) .box) → Row (suc n) s
