@@ -10,7 +10,7 @@ use Rattle.effects.proofs.held.next_update.Statement.{statement}
 use Rattle.effects.proofs.held.next_update.Tie as tie
 
 new : tie.Need-returns
-new c = sym (next-new σ _ _ (λ e. c .if1 .taken (c .before .held .ensures ∙ e)))
+new c = sym (next-new σ _ _ (λ e. omega (arith, c .if1 .taken, c .before .held .ensures)))
 
 add-result : tie.Need-add-result
 add-result c = omega (arith, c .update-count .ensures, updates-few σ _ (facts σ _ (c .before .before .before .before .pre)))
@@ -18,7 +18,7 @@ add-result c = omega (arith, c .update-count .ensures, updates-few σ _ (facts �
 same : tie.Need-returns-2
 same c =
     let tested = c .before in
-    ap (λ (n : ℕ). n + 1) (c .update-count .ensures) ∙ sym (next-same σ _ _ (sym (tested .before .held .ensures) ∙ tested .if1 .left))
+    ap (λ (n : ℕ). n + 1) (c .update-count .ensures) ∙ sym (next-same σ _ _ (omega (arith, tested .if1 .left, tested .before .held .ensures)))
 
 pub next-update-spec : {M : Type 1} → statement M
 next-update-spec =
