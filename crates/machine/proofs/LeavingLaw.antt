@@ -12,7 +12,7 @@ use Rattle.lockpage.specs.Geometry.{Geometry, Proper}
 use Rattle.lockpage.specs.Size.{pageSize}
 use Rattle.lockpage.specs.declared.Update.{Update}
 use Rattle.lockpage.specs.declared.Update.the-variants.{Write}
-use Rattle.addressing.specs.Map.{groupOf, physical, pageBlock}
+use Rattle.addressing.specs.Map.{groupOf, pageBlock}
 use Rattle.memory.specs.Layout.{memorySize, countSize}
 use Rattle.memory.specs.Memory.{salt, count, lastTime, groups, held, none, mostUpdates, updateCount, withCount, holding, holdingNone}
 use Rattle.memory.specs.Claims.{Reads, changed}
@@ -153,8 +153,8 @@ module _ {γ : Geometry} (σ : Proper γ) where
   held-first s c lock n other =
       let g = groupOf γ (c .block) in
       let p = changedPage γ (Write lock) c in
-      ap₂ (λ (xs ys : List Store). xs ++ (store (physical γ (c .block)) (c .content) ∷ ys))
-      (evict-other σ (s .memory) g other ∙ put-some σ (s .memory) n) (put-staying (s .memory) g p (new-stays (s .memory) g other))
+      let stays = new-stays (s .memory) g other in
+      rw (change, evict-other σ (s .memory) g other, put-some σ (s .memory) n, put-staying (s .memory) g p stays)
 
   -- the page that leaves goes last
   pub leaving-last : LeavingPageLast γ
@@ -162,8 +162,8 @@ module _ {γ : Geometry} (σ : Proper γ) where
   leaving-last s c lock e full =
       let g = groupOf γ (c .block) in
       let p = changedPage γ (Write lock) c in
-      ap₂ (λ (xs ys : List Store). xs ++ (store (physical γ (c .block)) (c .content) ∷ ys))
-      (evict-same σ (s .memory) g e) (put-leaving (s .memory) g p (many-leaves (s .memory) g (omega (arith, next-same (s .memory) g e))))
+      let leaves = many-leaves (s .memory) g (omega (arith, next-same (s .memory) g e)) in
+      rw (change, evict-same σ (s .memory) g e, put-leaving (s .memory) g p leaves)
 
   -- what holds of the held page's, of the data's and of the changed page's holds of each
   pub each-change : (P : Store → Type 0) (u : Update) (s : Box) (c : Command) → EachStore P (putHeld γ (s .memory))
