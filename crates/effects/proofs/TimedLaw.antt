@@ -16,7 +16,7 @@ use Rattle.validity.specs.Valid.{countLimit, valid}
 use Rattle.validity.proofs.ValidLaw.{facts, valid-time}
 use Rattle.machine.specs.Command.{boxOf}
 use Rattle.machine.specs.Claims.{ValidBox}
-use Rattle.effects.specs.Ready.{HoldReady}
+use Rattle.write_back.specs.Ready.{HoldReady}
 
 -- γ is any proper geometry
 module _ {γ : Geometry} (σ : Proper γ) where

@@ -6,14 +6,11 @@ use mathlib.Core.List.{List}
 use Prim.Native.Nat.{ℕ, _≤_, _<_}
 use lib.ListN.{length}
 use Rattle.lockpage.specs.Geometry.{Geometry}
-use Rattle.lockpage.specs.Size.{pageSize}
 use Rattle.lockpage.specs.declared.Update.{Update}
 use Rattle.lockpage.specs.Page.{entryAt}
 use Rattle.lockpage.specs.Update.{latestTime, updated, withinLimit}
 use Rattle.addressing.specs.Map.{dataBlocks, groupOf, placeOf}
-use Rattle.disk.specs.Disk.{HasGroup}
 use Rattle.memory.specs.Memory.{count, groups}
-use Rattle.memory.specs.Ready.{HasPage}
 use Rattle.validity.specs.Valid.{countLimit, valid}
 use Rattle.machine.specs.declared.Kind.the-variants.{Change}
 use Rattle.machine.specs.Command.{Box, Command, proofSize, broughtPage, answerSize}
@@ -39,13 +36,6 @@ module _ (γ : Geometry) where
     pub time : now ≤ latestTime
     pub proof-size : length proof ≡ proofSize γ
     pub limit : withinLimit (updated u now (entryAt (broughtPage γ proof) (placeOf γ a))) ≡ true
-
-  -- group g's changed page may be held or put on the disk: question 8
-  pub record HoldReady (s : Box) (g : ℕ) (page : List ℕ) : Type 0 where
-    pub box : ValidBox γ s
-    pub group : g < groups γ (s .memory)
-    pub unexhausted : count (s .memory) g < countLimit
-    pub page-size : length page ≡ pageSize γ
 
   -- kinds 4, 5 and 6
   pub record ChangeReady (u : Update) (s : Box) (c : Command) : Type 0 where

@@ -13,7 +13,6 @@ ghost use Rattle.machine.specs.Effect as E;
 ghost use Rattle.machine.specs.Step.{accepted};
 ghost use Rattle.machine.specs.Call.{boxAt, commandAt, outcomeAt};
 ghost use Rattle.effects.specs.Ready.{MayChange, ChangeReady};
-use crate::held;
 use lockpage::PAGE_SIZE;
 use lockpage::Update;
 
@@ -58,9 +57,9 @@ pub fn change(
 {
     let group = addressing::group_of(block);
     memory::set_last_time(memory, time);
-    held::evict(memory, disk, group);
+    write_back::evict(memory, disk, group);
     put_content(disk, u, block, content);
     store_changed(&mut answer[0..PAGE_SIZE], u, block, time, proof);
-    held::hold_or_put(memory, disk, group, &answer[0..PAGE_SIZE]);
+    write_back::hold_or_put(memory, disk, group, &answer[0..PAGE_SIZE]);
     tags::store_tag(memory, group, answer);
 }

@@ -9,7 +9,6 @@ ghost use Rattle.machine.specs.Step.{accepted};
 ghost use Rattle.machine.specs.Call.{boxAt, outcomeAt};
 ghost use Rattle.answers.specs.Ready.{OnEveryDisk};
 ghost use Rattle.effects.specs.Ready.{UpkeepReady, RestartReady};
-use crate::held;
 use answers::tail;
 
 // Kind 7.
@@ -19,7 +18,7 @@ pub fn sync(memory: &mut [u8], disk: &mut [u8], time: u32, answer: &mut [u8])
         ≡ accepted present (E.sync present) (boxAt (memory .entry) (disk .entry)) time ⌝ }
 {
     memory::set_last_time(memory, time);
-    held::put_held(memory, disk);
+    write_back::put_held(memory, disk);
     held_page::hold_none(memory);
     tail::zero_tail(answer, 0);
 }
@@ -30,7 +29,7 @@ pub fn restart(memory: &mut [u8], time: u32, answer: &mut [u8])
     ensures { λ _. ⌜ OnEveryDisk present (E.restart present) (now (memory .entry)) time (now (memory .exit)) (now (answer .exit)) ⌝ }
 {
     memory::set_last_time(memory, time);
-    held::lose_held(memory);
+    write_back::lose_held(memory);
     tail::zero_tail(answer, 0);
 }
 

@@ -1,11 +1,11 @@
--- `effects::held::put_held` meets its contract: the held page is copied out and stored as its group's. Assumes nothing.
+-- `write_back::put_held` meets its contract: the held page is copied out and stored as its group's. Assumes nothing.
 use borrow.Author.Needs.{needs}
 use Rattle.lockpage.specs.Geometry.{present}
 use Rattle.lockpage.proofs.GeometryLaw.{present-proper as σ}
 use Rattle.validity.proofs.ValidLaw.{Valid, facts}
-use Rattle.effects.proofs.HeldLaw.{none-put, held-has, held-size, held-put}
-use Rattle.effects.proofs.held.put_held.Statement.{statement}
-use Rattle.effects.proofs.held.put_held.Tie as tie
+use Rattle.write_back.proofs.HeldLaw.{none-put, held-has, held-size, held-put}
+use Rattle.write_back.proofs.put_held.Statement.{statement}
+use Rattle.write_back.proofs.put_held.Tie as tie
 
 -- where it starts, once a group is held, and where that is known, once its page is copied
 abbrev start : tie.Else1 → tie.Start

@@ -1,4 +1,4 @@
--- `effects::held::lose_held` meets its contract: none is held, and the group's count rises. Assumes nothing.
+-- `write_back::lose_held` meets its contract: none is held, and the group's count rises. Assumes nothing.
 use borrow.Author.Needs.{needs}
 use native.Mathlib.Omega.{arith}
 use Prim.Native.Nat.{_≤_, _<_}
@@ -6,9 +6,9 @@ use Rattle.lockpage.specs.Geometry.{present}
 use Rattle.lockpage.proofs.GeometryLaw.{present-proper as σ}
 use Rattle.validity.specs.Valid.{countLimit}
 use Rattle.validity.proofs.ValidLaw.{facts}
-use Rattle.effects.proofs.HeldLaw.{none-lost, held-few, held-count, held-lost}
-use Rattle.effects.proofs.held.lose_held.Statement.{statement}
-use Rattle.effects.proofs.held.lose_held.Tie as tie
+use Rattle.write_back.proofs.HeldLaw.{none-lost, held-few, held-count, held-lost}
+use Rattle.write_back.proofs.lose_held.Statement.{statement}
+use Rattle.write_back.proofs.lose_held.Tie as tie
 
 none : tie.Need-returns
 none c = none-lost σ _ _ (c .before .held .ensures) (c .if1 .taken)

@@ -1,4 +1,4 @@
-// The held page: put on the disk, changed, or lost.
+// What becomes of the held page: it is put on the disk, changed or lost. The contracts cite the definitions of machine.
 ghost use mathlib.Core.Path.{_≡_};
 ghost use mathlib.Core.Bool.{true};
 ghost use Rattle.lockpage.specs.Geometry.{present};
@@ -7,13 +7,13 @@ ghost use Rattle.machine.specs.Effect.{stored, putHeld, nextUpdateCount, putLea
 ghost use Rattle.machine.specs.Effect as E;
 ghost use Rattle.machine.specs.Call.{boxAt};
 ghost use Rattle.machine.specs.Claims.{ValidBox};
-ghost use Rattle.effects.specs.Ready.{HoldReady};
+ghost use Rattle.write_back.specs.Ready.{HoldReady};
 use lockpage::PAGE_SIZE;
 use memory::layout::MOST_UPDATES;
 use memory::layout::NONE;
 
 // Puts the held page, if any, on the disk.
-pub(crate) fn put_held(memory: &[u8], disk: &mut [u8])
+pub fn put_held(memory: &[u8], disk: &mut [u8])
     requires { ⌜ ValidBox present (boxAt memory disk) ⌝ }
     ensures { λ _. ⌜ now (disk .exit) ≡ stored present (now (disk .entry)) (putHeld present (now (memory .entry))) ⌝ }
 {
@@ -27,7 +27,7 @@ pub(crate) fn put_held(memory: &[u8], disk: &mut [u8])
 }
 
 // The same, if it is another group's.
-pub(crate) fn evict(memory: &[u8], disk: &mut [u8], group: u32)
+pub fn evict(memory: &[u8], disk: &mut [u8], group: u32)
     requires { ⌜ ValidBox present (boxAt memory disk) ⌝ }
     ensures { λ _. ⌜ now (disk .exit) ≡ stored present (now (disk .entry)) (E.evict present (now (memory .entry)) group) ⌝ }
 {
@@ -49,7 +49,7 @@ fn next_update(memory: &[u8], group: u32) -> u32
 }
 
 // The count of a group rises, and its changed page is held or, after the last update that may be, put on the disk.
-pub(crate) fn hold_or_put(memory: &mut [u8], disk: &mut [u8], group: u32, page: &[u8])
+pub fn hold_or_put(memory: &mut [u8], disk: &mut [u8], group: u32, page: &[u8])
     requires { ⌜ HoldReady present (boxAt memory disk) group (now page) ⌝ }
     ensures { λ _. ⌜ (now (memory .exit) ≡ changedMemory present (now (memory .entry)) group (now (page .entry)))
         × (now (disk .exit) ≡ stored present (now (disk .entry)) (putLeaving present (now (memory .entry)) group (now (page .entry)))) ⌝ }
@@ -66,7 +66,7 @@ pub(crate) fn hold_or_put(memory: &mut [u8], disk: &mut [u8], group: u32, page: 
 }
 
 // The held page, if any, is lost.
-pub(crate) fn lose_held(memory: &mut [u8])
+pub fn lose_held(memory: &mut [u8])
     requires { ⌜ valid present (now memory) ≡ true ⌝ }
     ensures { λ _. ⌜ now (memory .exit) ≡ restartedMemory present (now (memory .entry)) ⌝ }
 {

@@ -1,10 +1,10 @@
--- `effects::held::evict` meets its contract, by that of the put. Assumes nothing.
+-- `write_back::evict` meets its contract, by that of the put. Assumes nothing.
 use borrow.Author.Needs.{needs}
 use Rattle.lockpage.proofs.GeometryLaw.{present-proper as σ}
 use Rattle.validity.proofs.ValidLaw.{facts}
-use Rattle.effects.proofs.HeldLaw.{none-evicted, held-evicted}
-use Rattle.effects.proofs.held.evict.Statement.{statement}
-use Rattle.effects.proofs.held.evict.Tie as tie
+use Rattle.write_back.proofs.HeldLaw.{none-evicted, held-evicted}
+use Rattle.write_back.proofs.evict.Statement.{statement}
+use Rattle.write_back.proofs.evict.Tie as tie
 
 same : tie.Need-returns
 same c = none-evicted σ _ _ (c .before .held .ensures) _ _ (c .if1 .taken)

@@ -1,4 +1,4 @@
--- `effects::held::hold_or_put` meets its contract: the count stored, the page held or stored as its group's. Assumes nothing.
+-- `write_back::hold_or_put` meets its contract: the count stored, the page held or stored as its group's. Assumes nothing.
 use borrow.Author.Needs.{needs}
 use mathlib.Core.Path.{_≡_, _∙_}
 use native.Mathlib.Omega.{arith}
@@ -8,9 +8,9 @@ use Rattle.lockpage.proofs.GeometryLaw.{present-proper as σ}
 use Rattle.disk.proofs.DiskLaw.{hasGroup}
 use Rattle.memory.specs.Ready.{HasCount}
 use Rattle.validity.proofs.ValidLaw.{facts}
-use Rattle.effects.proofs.HeldLaw.{staying-put, staying-held, leaving-put, leaving-held}
-use Rattle.effects.proofs.held.hold_or_put.Statement.{statement}
-use Rattle.effects.proofs.held.hold_or_put.Tie as tie
+use Rattle.write_back.proofs.HeldLaw.{staying-put, staying-held, leaving-put, leaving-held}
+use Rattle.write_back.proofs.hold_or_put.Statement.{statement}
+use Rattle.write_back.proofs.hold_or_put.Tie as tie
 
 -- the states on the way back: the count read, the update's number, the start
 abbrev counted : tie.After-set-count → tie.After-count

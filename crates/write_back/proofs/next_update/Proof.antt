@@ -1,4 +1,4 @@
--- `effects::held::next_update` meets its contract, with the group held and not. Assumes nothing.
+-- `write_back::next_update` meets its contract, with the group held and not. Assumes nothing.
 use borrow.Author.Needs.{needs}
 use mathlib.Core.Path.{ap, sym, _∙_}
 use native.Mathlib.Omega.{arith}
@@ -6,8 +6,8 @@ use Prim.Native.Nat.{ℕ, _+_}
 use Rattle.lockpage.proofs.GeometryLaw.{present-proper as σ}
 use Rattle.validity.proofs.ValidLaw.{facts, updates-few}
 use Rattle.machine.proofs.LeavingLaw.{next-same, next-new}
-use Rattle.effects.proofs.held.next_update.Statement.{statement}
-use Rattle.effects.proofs.held.next_update.Tie as tie
+use Rattle.write_back.proofs.next_update.Statement.{statement}
+use Rattle.write_back.proofs.next_update.Tie as tie
 
 new : tie.Need-returns
 new c = sym (next-new σ _ _ (λ e. omega (arith, c .if1 .taken, c .before .held .ensures)))

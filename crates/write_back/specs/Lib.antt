@@ -1,0 +1,2 @@
+-- What the held page's functions take for granted.
+pub mod Ready
