@@ -1,5 +1,6 @@
 -- `write_back::evict` meets its contract, by that of the put. Assumes nothing.
 use borrow.Author.Needs.{needs}
+use native.Mathlib.Omega.{arith}
 use Rattle.lockpage.proofs.GeometryLaw.{present-proper as σ}
 use Rattle.validity.proofs.ValidLaw.{facts}
 use Rattle.write_back.proofs.HeldLaw.{none-evicted, held-evicted}
@@ -7,13 +8,13 @@ use Rattle.write_back.proofs.evict.Statement.{statement}
 use Rattle.write_back.proofs.evict.Tie as tie
 
 same : tie.Need-returns
-same c = none-evicted σ _ _ (c .before .held .ensures) _ _ (c .if1 .taken)
+same c = none-evicted σ _ _ (c .before .held .ensures) _ _ (omega (arith, c .if1 .taken))
 
 other : tie.Need-returns-2
 other c =
     let put = c .before .before in
     let tested = put .before .before in
-    held-evicted σ _ _ (tested .before .held .ensures) _ _ _ (tested .if1 .left) (put .put-held .ensures)
+    held-evicted σ _ _ (tested .before .held .ensures) _ _ _ (λ e. omega (arith, tested .if1 .left)) (put .put-held .ensures)
 
 pub evict-spec : {M : Type 1} → statement M
 evict-spec =
