@@ -1,8 +1,10 @@
 -- Laws of the address map, by arithmetic: what lies below what, what is apart, offsets within a group. Assumes nothing.
 use mathlib.Core.Path.{_≡_, ap, sym, _∙_}
-use Prim.Native.Nat.{ℕ, _+_, _*_, _/_, _^_, _≤_, _<_}
+use Prim.Native.Nat.{ℕ, _+_, _-_, _*_, _/_, _^_, _≤_, _<_}
 use native.Mathlib.Nat.{mod-lt, div-add-mod, div-lt-iff-lt-mul, mul-le-mul, mul-le-mul-left, mul-add-div, div-eq-of-lt, mul-div-le, lt-mul-div-succ}
 use native.Mathlib.Omega.{arith}
+use lib.Bits.{bitAnd}
+use Rattle.octets.proofs.ShiftLaw.{shift-quotient, mask-remainder}
 use Rattle.lockpage.specs.Geometry.{Geometry, Proper}
 use Rattle.lockpage.specs.Size.{blockSize}
 use Rattle.addressing.specs.Map.{groupData, groupBlocks, groupSize, diskSize, dataBlocks, groupOf, placeOf, pagePlace, physical, pageBlock, groupStart}
@@ -29,6 +31,16 @@ module _ {γ : Geometry} (σ : Proper γ) where
   pub placeOf-below : (a : ℕ) → placeOf γ a < pagePlace γ
   unfolding placeOf
   placeOf-below a = mod-lt a (σ .some-entries)
+
+  -- ---- by a shift and a mask, where a group has 2 ^ k data blocks
+
+  pub groupOf-shift : (k a : ℕ) → groupData γ ≡ 2 ^ k → a / 2 ^ k ≡ groupOf γ a
+  unfolding groupOf
+  groupOf-shift k a e = shift-quotient k (groupData γ) e a
+
+  pub placeOf-mask : (k a : ℕ) → groupData γ ≡ 2 ^ k → bitAnd a (groupData γ - 1) ≡ placeOf γ a
+  unfolding placeOf
+  placeOf-mask k a e = mask-remainder k (groupData γ) e a
 
   -- ---- physical blocks
 

@@ -2,14 +2,26 @@
 use Prim.Native.Nat.{ℕ}
 use mathlib.Core.Path.{refl, ap, _∙_}
 use native.Mathlib.Omega.{arith}
-use Rattle.lockpage.specs.Geometry.{Geometry, Proper}
-use Rattle.addressing.specs.Map.{groupOf, placeOf, pagePlace, blockStart}
-use Rattle.addressing.specs.Claims.{PapersDiskSizes, Inside, Apart, Within, ExtentsApart, ExtentsCover}
-use Rattle.addressing.proofs.MapLaw.{placeOf-below, physical-place, pageBlock-place, physical-below, pageBlock-below, physical-same, pageBlock-same}
+use Rattle.lockpage.specs.Geometry.{Geometry, Proper, base, present}
+use Rattle.lockpage.proofs.GeometryLaw.{base-proper, present-proper}
+use Rattle.addressing.specs.Map.{dataBlocks, groupOf, placeOf, pagePlace, physical, blockStart}
+use Rattle.addressing.specs.Claims.{PapersDiskSizes, PapersMap, Inside, Apart, Within, ExtentsApart, ExtentsCover}
+use Rattle.addressing.proofs.MapLaw.{groupOf-below, placeOf-below, physical-place, pageBlock-place, physical-below, pageBlock-below, physical-same, pageBlock-same}
 use Rattle.addressing.proofs.MapLaw.{physical-page, blockStart-end, blockStart-group, groupStart-apart, in-extent}
 
 pub papers-disk-sizes : PapersDiskSizes
 papers-disk-sizes = record { data-blocks = refl; blocks = refl; bytes = refl }
+
+-- document 01's box, and the one that the code runs
+pub papers-map : PapersMap base
+unfolding dataBlocks groupOf placeOf physical
+papers-map =
+    record { of-box = groupOf-below base-proper; group = λ a. refl; place = λ a. refl; physical-block = λ a. refl }
+
+pub present-map : PapersMap present
+unfolding dataBlocks groupOf placeOf physical
+present-map =
+    record { of-box = groupOf-below present-proper; group = λ a. refl; place = λ a. refl; physical-block = λ a. refl }
 
 -- γ is any proper geometry
 module _ {γ : Geometry} (σ : Proper γ) where

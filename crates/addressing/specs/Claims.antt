@@ -1,5 +1,5 @@
 -- What a reader wants to know of the address map. Each claim is a type; its proof has the claim's name in proofs/Theorems.antt.
-use Prim.Native.Nat.{ℕ, _+_, _*_, _≤_, _<_}
+use Prim.Native.Nat.{ℕ, _+_, _*_, _/_, _%_, _≤_, _<_}
 use mathlib.Core.Path.{_≡_}
 use Rattle.lockpage.specs.Geometry.{Geometry, base}
 use Rattle.lockpage.specs.Size.{blockSize}
@@ -11,6 +11,14 @@ pub record PapersDiskSizes : Type 0 where
   pub data-blocks : groupData base ≡ 64
   pub blocks : groupBlocks base ≡ 65
   pub bytes : groupSize base ≡ 33280
+
+-- document 02, Q-5: "For every block below 64 × G its group, place in the group and physical block stay those of document 01." The last
+-- three are so for every number
+pub record PapersMap (γ : Geometry) : Type 0 where
+  pub of-box : (groups a : ℕ) → a < 64 * groups → groupOf γ a < groups
+  pub group : (a : ℕ) → groupOf γ a ≡ a / 64
+  pub place : (a : ℕ) → placeOf γ a ≡ a % 64
+  pub physical-block : (a : ℕ) → physical γ a ≡ a + a / 64
 
 -- γ is the box's geometry
 module _ (γ : Geometry) where

@@ -7,10 +7,13 @@ ghost use Rattle.addressing.specs.Map.{groupBlocks, diskSize, dataBlocks
 
 pub const BLOCK_SIZE: usize = lockpage::PAGE_SIZE;
 
-// Data blocks in a group; the page's place after them.
-const GROUP_DATA: u32 = lockpage::ENTRIES_PER_PAGE as u32;
-
+// The page's place: after the group's data blocks, each of which has an entry on it.
 pub const PAGE_PLACE: usize = lockpage::ENTRIES_PER_PAGE;
+
+// The low bits of a block's number are its place, the others its group.
+const PLACE_BITS: u32 = lockpage::INDEX_BITS;
+
+const PLACE_MASK: u32 = PAGE_PLACE as u32 - 1;
 
 const GROUP_BLOCKS: usize = PAGE_PLACE + 1;
 
@@ -34,14 +37,14 @@ pub fn data_blocks(groups: u32) -> usize
 pub fn group_of(block: u32) -> u32
     ensures { λ r. ⌜ r ≡ groupOf present block ⌝ }
 {
-    block / GROUP_DATA
+    block >> PLACE_BITS
 }
 
 // Its place in the group.
 pub fn place_of(block: u32) -> usize
     ensures { λ r. ⌜ r ≡ placeOf present block ⌝ }
 {
-    (block % GROUP_DATA) as usize
+    (block & PLACE_MASK) as usize
 }
 
 // The first byte of a group's extent of the disk.

@@ -8,7 +8,10 @@ pub const WORD_SIZE: usize = 4;
 
 pub const ENTRY_SIZE: usize = 2 * WORD_SIZE;
 
-pub const ENTRIES_PER_PAGE: usize = 64;
+// The bits of an entry's index on its page.
+pub const INDEX_BITS: u32 = 6;
+
+pub const ENTRIES_PER_PAGE: usize = 1 << INDEX_BITS;
 
 pub const PAGE_SIZE: usize = ENTRY_SIZE * ENTRIES_PER_PAGE;
 

@@ -20,6 +20,7 @@ use Rattle.lockpage.proofs.EntryLaw.{flag-stampOf, frozen-yes, frozen-no}
 use Rattle.lockpage.proofs.StateLaw.{state-counting, state-free, left-ahead, left-past}
 use Rattle.lockpage.proofs.UpdateLaw.{within-lock, written-word, written-flag, allowed-write}
 use Rattle.addressing.specs.Map.{physical, pageBlock}
+use Rattle.addressing.proofs.Theorems.{papers-map}
 use Rattle.machine.specs.declared.Kind.{Kind}
 use Rattle.machine.specs.declared.Kind.the-variants.{Change}
 use Rattle.machine.specs.Command.{Box, Command, broughtEntry}
@@ -91,6 +92,7 @@ edge-values =
       block-64 = refl;
       block-1023 = refl;
       page-15 = refl;
+      every-block = papers-map;
       written-bytes = refl;
       unfrozen-bytes = refl;
       grown-word = refl;

@@ -15,6 +15,7 @@ use Rattle.lockpage.specs.State.{state, timeLeft, timeLeftBytes}
 use Rattle.lockpage.specs.Update.{updated}
 use Rattle.lockpage.specs.Page.{blankEntry}
 use Rattle.addressing.specs.Map.{physical, pageBlock}
+use Rattle.addressing.specs.Claims.{PapersMap}
 use Rattle.machine.specs.Command.{Box, Command}
 use Rattle.machine.specs.Step.{step, Accepted}
 
@@ -55,6 +56,8 @@ pub record EdgeValues : Type 0 where
   pub block-64 : physical base 64 ≡ 65
   pub block-1023 : physical base 1023 ≡ 1038
   pub page-15 : pageBlock base 15 ≡ 1039
+  -- and every block: document 02, Q-5
+  pub every-block : PapersMap base
   -- "F4 01 00 00 D0 07 00 00"
   pub written-bytes : entryBytes writtenEntry ≡ 244 ∷ 1 ∷ 0 ∷ 0 ∷ 208 ∷ 7 ∷ 0 ∷ 0 ∷ []
   -- document 02, Q-2: "the case A4 06 becomes A5 06": A5 06 00 00 D1 07 00 00

@@ -5,5 +5,6 @@ pub mod RepeatedLaw
 pub mod PartLaw
 pub mod ReplacedLaw
 pub mod NumberLaw
+pub mod ShiftLaw
 pub mod SignedLaw
 pub mod EqualLaw
