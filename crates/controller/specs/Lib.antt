@@ -1,1 +1,2 @@
--- No definitions of its own: the contracts cite those of machine.
+-- What the contracts below `command` cite.
+pub mod ByKind

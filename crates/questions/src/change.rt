@@ -22,7 +22,7 @@ fn is_unexhausted(memory: &[u8], group: u32) -> bool
 
 // The number of the first of questions 7 to 10 that says no, or 0. All are answered first: question 7 makes one tag, and the others cost
 // a few comparisons.
-pub(crate) fn refusal(memory: &[u8], u: Update, block: u32, time: u32, proof: &[u8]) -> u32
+pub fn refusal(memory: &[u8], u: Update, block: u32, time: u32, proof: &[u8]) -> u32
     requires { ⌜ UpdateReady present (now memory) block time (now proof) ⌝ }
     ensures { λ r. ⌜ r ≡ firstNo (changeQuestions present u (now (memory .entry)) block time (now (proof .entry))) ⌝ }
 {

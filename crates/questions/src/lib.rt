@@ -1,6 +1,6 @@
-// All questions that a command is asked before it is carried out, in order: the first is validity's, 2 to 6 are form's, 7 to 10 are in
-// change, and 11 is here. The contracts cite the definitions of machine, and specs/ for 7 to 10 together.
-mod change;
+// The questions that a command is asked before it is carried out: 1 to 6, which every kind is asked, in order; 7 to 10 of an update, in
+// change; and 11 of a new salt. The contracts cite the definitions of machine, and specs/ for those that are asked together.
+pub mod change;
 
 ghost use mathlib.Core.Path.{_≡_};
 ghost use mathlib.Core.List.{[], _∷_};
@@ -8,11 +8,12 @@ ghost use lib.ListN.{length};
 ghost use Rattle.lockpage.specs.Geometry.{present};
 ghost use Rattle.memory.specs.Layout.{memorySize};
 ghost use Rattle.machine.specs.Call.{boxAt, commandAt};
-ghost use Rattle.machine.specs.Question.{question11, questionsTo, firstNo};
+ghost use Rattle.machine.specs.Question.{question11, firstNo};
+ghost use Rattle.questions.specs.FirstQuestions.{firstQuestions};
 use machine::Kind;
 
 // Question 11, as it is put to a new salt: its number where it says no, or 0.
-fn salt_refusal(memory: &[u8], content: &[u8]) -> u32
+pub fn salt_refusal(memory: &[u8], content: &[u8]) -> u32
     requires { ⌜ length (now memory) ≡ memorySize present ⌝ }
     ensures { λ r. ⌜ r ≡ firstNo (question11 present Kind.NewSalt (now (memory .entry)) (now (content .entry)) ∷ []) ⌝ }
 {
@@ -22,7 +23,7 @@ fn salt_refusal(memory: &[u8], content: &[u8]) -> u32
     machine::ACCEPTED
 }
 
-// The number of the first question that says no to a command of kind k, or 0. Of the command's own kind and value they look
+// The number of the first of questions 1 to 6 that says no to a command of kind k, or 0. Of the command's own kind and value they look
 // only at k.
 pub fn refusal(
     memory: &[u8],
@@ -34,25 +35,11 @@ pub fn refusal(
     proof: &[u8],
     answer: &[u8],
 ) -> u32
-    ensures { λ r. ⌜ r ≡ firstNo (questionsTo present k (boxAt (memory .entry) (disk .entry))
+    ensures { λ r. ⌜ r ≡ firstNo (firstQuestions present k (boxAt (memory .entry) (disk .entry))
         (commandAt 0 block time 0 (content .entry) (proof .entry) (answer .entry))) ⌝ }
 {
     if !validity::valid(memory) {
         return machine::MEMORY_INVALID;
     }
-    let n = arguments::refusal(memory, disk, k, block, time, content, proof, answer);
-    if n != machine::ACCEPTED {
-        return n;
-    }
-    match k {
-        Kind::Read => machine::ACCEPTED,
-        Kind::Entry => machine::ACCEPTED,
-        Kind::Page => machine::ACCEPTED,
-        Kind::Change(u) => change::refusal(memory, u, block, time, proof),
-        Kind::Sync => machine::ACCEPTED,
-        Kind::Restart => machine::ACCEPTED,
-        Kind::NewSalt => salt_refusal(memory, content),
-        Kind::Identify => machine::ACCEPTED,
-        Kind::Unknown => machine::ACCEPTED,
-    }
+    arguments::refusal(memory, disk, k, block, time, content, proof, answer)
 }

@@ -1,5 +1,5 @@
 // The version store: versions of parts in free blocks under one lock, the newest of each known, and a log on the disk. It reads memory and
-// disk, and alters them by controller::command alone. Its calls have no precondition, and their contracts fix the numbers answered and
+// disk, and alters them by controller::update alone. Its calls have no precondition, and their contracts fix the numbers answered and
 // every byte of state, memory and disk by the definitions of versions_bytes.
 ghost use mathlib.Core.Path.{_≡_};
 ghost use Rattle.lockpage.specs.Geometry.{present};

@@ -6,32 +6,11 @@ ghost use Rattle.lockpage.specs.Geometry.{present};
 ghost use Rattle.addressing.specs.Map.{groupOf};
 ghost use Rattle.machine.specs.Tag.{tagged, currentPage};
 ghost use Rattle.machine.specs.Call.{boxAt};
-ghost use Rattle.versions_machine.specs.Plan.{orderOf, kindNumber, valueOf, carriedOf, carriedOut};
+ghost use Rattle.versions_machine.specs.Plan.{orderOf, carriedOf, carriedOut};
 ghost use Rattle.versions_orders.specs.Ready.{OrderReady, BringReady};
 use lockpage::PAGE_SIZE;
 use lockpage::Update;
-
-// The kind of the command that makes an update.
-fn kind_of(u: Update) -> u32
-    ensures { λ r. ⌜ r ≡ kindNumber u ⌝ }
-{
-    match u {
-        Update::Write(_) => 4,
-        Update::Unfreeze => 5,
-        Update::Increment(_) => 6,
-    }
-}
-
-// Its value.
-fn value_of(u: Update) -> u32
-    ensures { λ r. ⌜ r ≡ valueOf u ⌝ }
-{
-    match u {
-        Update::Write(lock) => lock,
-        Update::Unfreeze => 0,
-        Update::Increment(value) => value,
-    }
-}
+use machine::Kind;
 
 // Fills proof with the current page of a block's group and its tag.
 fn bring(memory: &[u8], disk: &[u8], block: u32, proof: &mut [u8])
@@ -61,18 +40,11 @@ pub fn give(
     if block as usize >= addressing::data_blocks(memory::groups(memory)) {
         return machine::ADDRESS_OUT_OF_RANGE;
     }
+    if content.len() != arguments::kinds::content_length(Kind::Change(u)) {
+        return machine::LENGTH_WRONG;
+    }
     let mut proof = [0u8; tags::PROOF_SIZE];
     bring(memory, disk, block, &mut proof);
     let mut answer = [0u8; tags::ANSWER_SIZE];
-    controller::command(
-        memory,
-        disk,
-        kind_of(u),
-        block,
-        time,
-        value_of(u),
-        content,
-        &proof,
-        &mut answer,
-    )
+    controller::update(memory, disk, u, block, time, content, &proof, &mut answer)
 }

@@ -1,9 +1,9 @@
--- `controller::command` meets its contract: refused by the questions, or carried out. Assumes nothing.
+-- `controller::command` meets its contract: refused by questions 1 to 6, or carried out. Assumes nothing.
 use borrow.Author.Needs.{needs}
 use mathlib.Core.Path.{sym, _∙_}
 use native.Mathlib.Omega.{arith}
 use Rattle.lockpage.proofs.GeometryLaw.{present-proper as σ}
-use Rattle.controller.proofs.CommandLaw.{command-refused, command-accepted}
+use Rattle.controller.proofs.CommandLaw.{first-refuse}
 use Rattle.controller.proofs.command.Statement.{statement}
 use Rattle.controller.proofs.command.Tie as tie
 
@@ -19,26 +19,24 @@ start c = c .before .before .before .before .before .before
 
 refused : tie.Need-returns
 refused c =
-    let kind = found (c .before) in
-    let x = start kind .args in
-    command-refused σ (x .memory .now) (x .disk .now) (x .kind) (x .block) (x .time) (x .value) (x .content .now) (x .proof .now) (x .answer .now) _ _
-    (kind .kind-numbered .ensures) (c .before .refusal .ensures) (c .if1 .taken)
+    let asked = c .before in
+    let named = found asked in
+    let x = start named .args in
+    first-refuse σ (named .kind-numbered .result) (x .memory .now) (x .disk .now) (x .block) (x .time) (x .content .now) (x .proof .now) (x .answer .now) _
+    (asked .refusal .ensures) (λ z. omega (arith, c .if1 .taken, z)) (x .kind) (x .value) (sym (named .kind-numbered .ensures))
 
 carry-out-requires : tie.Need-carry-out-requires
 carry-out-requires c κs =
     sym (passed c .before .refusal .ensures) ∙ omega (arith, passed c .if1 .left)
 
-accepted : tie.Need-returns-2
-accepted c =
+carried-out : tie.Need-returns-2
+carried-out c =
     let done = c .before .before .before .before .before .before in
-    let yes = passed (done .before) in
-    let kind = found (yes .before) in
-    let x = start kind .args in
-    command-accepted σ (x .memory .now) (x .disk .now) (x .kind) (x .block) (x .time) (x .value) (x .content .now) (x .proof .now) (x .answer .now) _ _
-    (kind .kind-numbered .ensures) (yes .before .refusal .ensures) _ _ _ (omega (arith, yes .if1 .left)) (done .carry-out .ensures)
+    let named = found (passed (done .before) .before) in
+    done .carry-out .ensures (start named .args .kind) (start named .args .value) (sym (named .kind-numbered .ensures))
 
 pub command-spec : {M : Type 1} → statement M
 command-spec =
     tie.close
     (tie.spec (λ c κs. search needs) (λ c κs. search needs) (λ c. search needs) (λ c. search needs) (λ c. search needs) refused carry-out-requires
-    (λ c. search needs) (λ c. search needs) (λ c. search needs) accepted)
+    (λ c. search needs) (λ c. search needs) (λ c. search needs) carried-out)
