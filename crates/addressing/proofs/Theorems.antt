@@ -6,8 +6,8 @@ use Rattle.lockpage.specs.Geometry.{Geometry, Proper, base, present}
 use Rattle.lockpage.proofs.GeometryLaw.{base-proper, present-proper}
 use Rattle.addressing.specs.Map.{dataBlocks, groupOf, placeOf, pagePlace, physical, blockStart}
 use Rattle.addressing.specs.Claims.{PapersDiskSizes, PapersMap, Inside, Apart, Within, ExtentsApart, ExtentsCover}
-use Rattle.addressing.proofs.MapLaw.{groupOf-below, placeOf-below, physical-place, pageBlock-place, physical-below, pageBlock-below, physical-same, pageBlock-same}
-use Rattle.addressing.proofs.MapLaw.{physical-page, blockStart-end, blockStart-group, groupStart-apart, in-extent}
+use Rattle.addressing.proofs.MapLaw.{groupOf-below, placeOf-below, physical-place, pageBlock-place, physical-below, pageBlock-below, physical-same}
+use Rattle.addressing.proofs.MapLaw.{pageBlock-same, physical-page, blockStart-end, blockStart-group, groupStart-apart, in-extent}
 
 pub papers-disk-sizes : PapersDiskSizes
 papers-disk-sizes = record { data-blocks = refl; blocks = refl; bytes = refl }

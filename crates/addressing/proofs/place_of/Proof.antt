@@ -1,12 +1,15 @@
 -- `addressing::place_of` meets its contract: a mask of the bits of a place. Assumes nothing.
+use native.Mathlib.Nat.{lt-of-le-of-lt}
 use native.Mathlib.Omega.{arith}
+use lib.Bits.{and-le-l}
 use Rattle.lockpage.proofs.GeometryLaw.{present-proper as σ, index-bits, present-entries}
-use Rattle.addressing.proofs.MapLaw.{placeOf-mask, placeOf-below}
+use Rattle.addressing.proofs.MapLaw.{placeOf-mask}
 use Rattle.addressing.proofs.place_of.Statement.{statement}
 use Rattle.addressing.proofs.place_of.Tie as tie
 
+-- a mask makes no number larger
 fits : tie.Need-cast-result
-fits c = omega (arith, placeOf-mask σ index-bits (c .args .block) present-entries, placeOf-below σ (c .args .block))
+fits c = record { fits = lt-of-le-of-lt (and-le-l (c .args .block) _) (omega (arith, c .fits)) }
 
 returns : tie.Need-returns
 returns c = placeOf-mask σ index-bits _ present-entries
