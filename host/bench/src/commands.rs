@@ -7,7 +7,8 @@
 //! again: so nothing is reset, and each update brings what the one before answered, in two buffers
 //! that change places. The page leaves by itself with the last of each 64, whose mean so includes it;
 //! the second table has what that adds. It is held again while the other kinds are timed. What is
-//! timed is the calls alone.
+//! timed is the calls alone, each as who uses that controller makes it: the archive gets its arguments
+//! one by one, the host's controller a command at which it looks.
 use crate::median;
 #[cfg(official)]
 use crate::official;
@@ -35,13 +36,32 @@ const KINDS: [(u32, &str, u32); 6] = [
 /// How many of them are updates.
 const UPDATING: usize = 3;
 
-type Controller = fn(&mut [u8], &mut [u8], &Command, &mut [u8]) -> u32;
-
-fn ours(memory: &mut [u8], disk: &mut [u8], c: &Command, answer: &mut [u8]) -> u32 {
-    archive::command(memory, disk, c.kind, c.block, c.now, c.value, c.data, c.proof, answer)
+/// A controller, as it is called in the loop that is timed.
+trait Controller {
+    fn command(memory: &mut [u8], disk: &mut [u8], c: Command, answer: &mut [u8]) -> u32;
 }
 
-fn host(memory: &mut [u8], disk: &mut [u8], c: &Command, answer: &mut [u8]) -> u32 {
+struct Archive;
+
+impl Controller for Archive {
+    #[inline(always)]
+    fn command(memory: &mut [u8], disk: &mut [u8], c: Command, answer: &mut [u8]) -> u32 {
+        archive::command(memory, disk, c.kind, c.block, c.now, c.value, c.data, c.proof, answer)
+    }
+}
+
+struct Host;
+
+impl Controller for Host {
+    #[inline(always)]
+    fn command(memory: &mut [u8], disk: &mut [u8], c: Command, answer: &mut [u8]) -> u32 {
+        by_host(memory, disk, &c, answer)
+    }
+}
+
+/// Apart from the loop, as the archive is.
+#[inline(never)]
+fn by_host(memory: &mut [u8], disk: &mut [u8], c: &Command, answer: &mut [u8]) -> u32 {
     controller::command::<Tags>(memory, disk, c, answer)
 }
 
@@ -64,9 +84,12 @@ impl Digest for Tags {
     }
 }
 
+/// Nanoseconds for these calls of a kind.
+type Total = fn(&mut Timed, u32, Range<u32>) -> f64;
+
 /// A box with the controller that it is sent to.
 struct Timed {
-    controller: Controller,
+    total: Total,
     memory: Vec<u8>,
     disk: Vec<u8>,
     group: u32,
@@ -76,12 +99,12 @@ struct Timed {
 }
 
 impl Timed {
-    fn new(controller: Controller, groups: u32) -> Timed {
+    fn new(total: Total, groups: u32) -> Timed {
         let mut memory = vec![0; 616];
         let mut disk = vec![0x5A; 33_280 * groups as usize];
         assert_eq!(controller::format(&mut memory, &mut disk, groups, &[7; 32]), 0);
         let (current, answer) = (vec![0; 544], vec![0; 544]);
-        let mut made = Timed { controller, memory, disk, group: groups - 1, current, answer };
+        let mut made = Timed { total, memory, disk, group: groups - 1, current, answer };
         made.slice(controller::PAGE, 1);
         std::mem::swap(&mut made.current, &mut made.answer);
         made
@@ -89,7 +112,7 @@ impl Timed {
 
     /// Nanoseconds for one command, over so many calls.
     fn slice(&mut self, kind: u32, calls: u32) -> f64 {
-        self.total(kind, 0..calls) / calls as f64
+        (self.total)(self, kind, 0..calls) / calls as f64
     }
 
     /// No page is held, as at the start of a round.
@@ -103,35 +126,36 @@ impl Timed {
         self.slice(controller::UNFREEZE, 1);
     }
 
-    /// Nanoseconds for these calls, each to the next block of the group.
-    fn total(&mut self, kind: u32, calls: Range<u32>) -> f64 {
-        let update = (controller::WRITE..=controller::INCREMENT).contains(&kind);
-        let data: &[u8] = if kind == controller::WRITE { &[0xA5; 512] } else { &[] };
-        let mut refused = 0;
-        let began = Instant::now();
-        for call in calls {
-            let block = if kind == controller::PAGE { self.group } else { 64 * self.group + call % 64 };
-            let proof: &[u8] = if update { &self.current } else { &[] };
-            let command = black_box(Command { kind, block, now: NOW, value: 0, data, proof });
-            refused |= (self.controller)(&mut self.memory, &mut self.disk, &command, &mut self.answer);
-            black_box(&self.answer);
-            if update {
-                std::mem::swap(&mut self.current, &mut self.answer);
-            }
-        }
-        let passed = began.elapsed().as_nanos() as f64;
-        assert_eq!(refused, 0, "kind {kind}");
-        passed
-    }
-
     /// Nanoseconds for the updates with which the page does not leave, of them the last one by itself, and for the one with
     /// which it does.
     fn leaving(&mut self, kind: u32) -> [f64; 3] {
         let (one, last) = (UPDATES - 2, UPDATES - 1);
-        let times = [0..one, one..last, last..UPDATES].map(|calls| self.total(kind, calls));
+        let times = [0..one, one..last, last..UPDATES].map(|calls| (self.total)(self, kind, calls));
         assert_eq!(self.memory[101], 255, "the page has not left");
         times
     }
+}
+
+/// Nanoseconds for these calls, each to the next block of the group.
+fn total<C: Controller>(timed: &mut Timed, kind: u32, calls: Range<u32>) -> f64 {
+    let update = (controller::WRITE..=controller::INCREMENT).contains(&kind);
+    let data: &[u8] = if kind == controller::WRITE { &[0xA5; 512] } else { &[] };
+    let (kind, now, value, data) = (black_box(kind), black_box(NOW), black_box(0), black_box(data));
+    let mut refused = 0;
+    let began = Instant::now();
+    for call in calls {
+        let block = if kind == controller::PAGE { timed.group } else { 64 * timed.group + call % 64 };
+        let proof: &[u8] = if update { &timed.current } else { &[] };
+        let command = Command { kind, block, now, value, data, proof };
+        refused |= C::command(&mut timed.memory, &mut timed.disk, command, &mut timed.answer);
+        black_box(&timed.answer);
+        if update {
+            std::mem::swap(&mut timed.current, &mut timed.answer);
+        }
+    }
+    let passed = began.elapsed().as_nanos() as f64;
+    assert_eq!(refused, 0, "kind {kind}");
+    passed
 }
 
 #[derive(Default)]
@@ -148,7 +172,7 @@ pub fn run() {
 }
 
 fn rates() {
-    let mut boxes = [Timed::new(ours, 1), Timed::new(host, 1), Timed::new(ours, 16)];
+    let mut boxes = [Timed::new(total::<Archive>, 1), Timed::new(total::<Host>, 1), Timed::new(total::<Archive>, 16)];
     let mut measured: [Measured; KINDS.len()] = Default::default();
     for _ in 0..ROUNDS {
         boxes.iter_mut().for_each(Timed::sync);
@@ -173,7 +197,7 @@ fn rates() {
 /// What the page's leaving adds: the mean over 64 updates, with the last of which it leaves, against the host's, and as times of the
 /// mean over the 63 before it; and the last as times of the one before it, each timed by itself.
 fn leaving() {
-    let mut boxes = [Timed::new(ours, 1), Timed::new(host, 1)];
+    let mut boxes = [Timed::new(total::<Archive>, 1), Timed::new(total::<Host>, 1)];
     let mut measured: [[Vec<f64>; 3]; UPDATING] = Default::default();
     for _ in 0..ROUNDS {
         for ((kind, _, _), [to_host, to_before, last_to_one]) in KINDS.iter().zip(&mut measured) {

@@ -1,20 +1,22 @@
 //! How fast the archive is, next to other implementations: its digest, its commands, its lists and its
-//! version store; and the script program. The words `digest`, `commands`, `lists`, `versions` and `script`
-//! run one part. Nothing here passes or fails.
+//! version store; the script program; and two forms of the address map. The words `digest`, `commands`,
+//! `lists`, `versions`, `script` and `map` run one part. Nothing here passes or fails.
 mod commands;
 mod digest;
 mod lists;
+mod map;
 #[cfg(official)]
 mod official;
 mod script;
 mod versions;
 
-const PARTS: [(&str, fn()); 5] = [
+const PARTS: [(&str, fn()); 6] = [
     ("digest", digest::run),
     ("commands", commands::run),
     ("lists", lists::run),
     ("versions", versions::run),
     ("script", script::run),
+    ("map", map::run),
 ];
 
 fn median(values: &mut [f64]) -> f64 {
