@@ -126,8 +126,8 @@ module _ {γ : Geometry} (σ : Proper γ) where
     refused n en h kind value ek = refused-of σ box (named kind value ek) n (en ∙ same-refusal kind value ek) h
 
     -- n is the number that the first six gave
-    pub first-refuse : (n : ℕ) → n ≡ firstNo (firstQuestions γ k box bare) → (n ≡ 0 → ⊥) → ComesTo γ k box bare (outcomeOf n m disk answer)
-    first-refuse n en h = refused n (en ∙ first-refused σ k box bare (λ z. h (en ∙ z))) h
+    pub comes-refused : (n : ℕ) → n ≡ firstNo (firstQuestions γ k box bare) → (n ≡ 0 → ⊥) → ComesTo γ k box bare (outcomeOf n m disk answer)
+    comes-refused n en h = refused n (en ∙ first-refused σ k box bare (λ z. h (en ∙ z))) h
 
     pub carried : (memory after r : List ℕ) → firstNo (questionsTo γ k box bare) ≡ 0
         → outcomeOf 0 memory after r ≡ accepted γ (λ t. effect γ k t bare) box now → ComesTo γ k box bare (outcomeOf 0 memory after r)
@@ -152,8 +152,8 @@ module _ {γ : Geometry} (σ : Proper γ) where
     pub update-refused : (n ≡ 0 → ⊥) → ComesTo γ (Change u) update-box bare-update (outcomeOf n m disk answer)
     update-refused h = refused (Change u) m disk a now content proof answer n update-number h
 
-    pub update-ready : n ≡ 0 → ChangeReady γ u update-box bare-update
-    update-ready e = change-ready u update-box bare-update (all-yes (Change u) update-box bare-update (sym update-number ∙ e))
+    pub update-passed : n ≡ 0 → ChangeReady γ u update-box bare-update
+    update-passed e = change-ready u update-box bare-update (all-yes (Change u) update-box bare-update (sym update-number ∙ e))
 
     pub update-made : n ≡ 0 → (memory after r : List ℕ)
         → outcomeOf 0 memory after r ≡ accepted γ (λ t. effect γ (Change u) t bare-update) update-box now
@@ -176,8 +176,8 @@ module _ {γ : Geometry} (σ : Proper γ) where
     pub salt-refused : (n ≡ 0 → ⊥) → ComesTo γ NewSalt salt-box bare-salt (outcomeOf n m disk answer)
     salt-refused h = refused NewSalt m disk a now content proof answer n salt-number h
 
-    pub salt-ready : n ≡ 0 → UpkeepReady γ salt-box now answer × (length content ≡ saltSize)
-    salt-ready e =
+    pub salt-passed : n ≡ 0 → UpkeepReady γ salt-box now answer × (length content ≡ saltSize)
+    salt-passed e =
         let all = all-yes NewSalt salt-box bare-salt (sym salt-number ∙ e) in
         (upkeep-ready NewSalt salt-box bare-salt all, passed σ NewSalt salt-box bare-salt all .content)
 

@@ -3,7 +3,7 @@ use borrow.Author.Needs.{needs}
 use mathlib.Core.Path.{sym, _∙_}
 use native.Mathlib.Omega.{arith}
 use Rattle.lockpage.proofs.GeometryLaw.{present-proper as σ}
-use Rattle.controller.proofs.CommandLaw.{first-refuse}
+use Rattle.controller.proofs.CommandLaw.{comes-refused}
 use Rattle.controller.proofs.command.Statement.{statement}
 use Rattle.controller.proofs.command.Tie as tie
 
@@ -22,7 +22,7 @@ refused c =
     let asked = c .before in
     let named = found asked in
     let x = start named .args in
-    first-refuse σ (named .kind-numbered .result) (x .memory .now) (x .disk .now) (x .block) (x .time) (x .content .now) (x .proof .now) (x .answer .now) _
+    comes-refused σ (named .kind-numbered .result) (x .memory .now) (x .disk .now) (x .block) (x .time) (x .content .now) (x .proof .now) (x .answer .now) _
     (asked .refusal .ensures) (λ z. omega (arith, c .if1 .taken, z)) (x .kind) (x .value) (sym (named .kind-numbered .ensures))
 
 carry-out-requires : tie.Need-carry-out-requires

@@ -5,7 +5,7 @@ use Rattle.lockpage.proofs.GeometryLaw.{present-proper as σ}
 use Rattle.machine.specs.Command.{boxOf, commandOf}
 use Rattle.machine.specs.Effect.{effect}
 use Rattle.questions.proofs.RefusalLaw.{salt-size}
-use Rattle.controller.proofs.CommandLaw.{salt-refused, salt-ready, salt-made}
+use Rattle.controller.proofs.CommandLaw.{salt-refused, salt-passed, salt-made}
 use Rattle.controller.proofs.new_salt.Statement.{statement}
 use Rattle.controller.proofs.new_salt.Tie as tie
 
@@ -33,7 +33,7 @@ new-salt-requires : tie.Need-new-salt-requires
 new-salt-requires c κs =
     let asked = passed c .before in
     let x = start (asked .before) .args in
-    salt-ready σ (x .memory .now) (x .disk .now) (x .block) (x .time) (x .content .now) (x .proof .now) (x .answer .now)
+    salt-passed σ (x .memory .now) (x .disk .now) (x .block) (x .time) (x .content .now) (x .proof .now) (x .answer .now)
     (start (asked .before) .pre) _ (asked .salt-refusal .ensures) (omega (arith, passed c .if1 .left))
 
 accepted : tie.Need-returns-2

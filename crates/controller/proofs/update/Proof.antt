@@ -4,8 +4,8 @@ use native.Mathlib.Omega.{arith}
 use Rattle.lockpage.proofs.GeometryLaw.{present-proper as σ}
 use Rattle.machine.specs.Command.{boxOf, commandOf}
 use Rattle.machine.specs.Effect.{effect}
-use Rattle.questions.proofs.RefusalLaw as asked
-use Rattle.controller.proofs.CommandLaw.{update-refused, update-ready, update-made}
+use Rattle.questions.proofs.RefusalLaw.{update-ready}
+use Rattle.controller.proofs.CommandLaw.{update-refused, update-passed, update-made}
 use Rattle.controller.proofs.update.Statement.{statement}
 use Rattle.controller.proofs.update.Tie as tie
 
@@ -19,7 +19,7 @@ start c = c .before .before .before .before .before .before
 refusal-requires : tie.Need-refusal-requires
 refusal-requires c κs =
     let x = start c .args in
-    asked.update-ready σ (x .u) (boxOf (x .memory .now) (x .disk .now))
+    update-ready σ (x .u) (boxOf (x .memory .now) (x .disk .now))
     (commandOf 0 (x .block) (x .time) 0 (x .content .now) (x .proof .now) (x .answer .now)) (start c .pre)
 
 refused : tie.Need-returns
@@ -33,7 +33,7 @@ change-requires : tie.Need-change-requires
 change-requires c κs =
     let asked = passed c .before in
     let x = start (asked .before) .args in
-    update-ready σ (x .u) (x .memory .now) (x .disk .now) (x .block) (x .time) (x .content .now) (x .proof .now) (x .answer .now)
+    update-passed σ (x .u) (x .memory .now) (x .disk .now) (x .block) (x .time) (x .content .now) (x .proof .now) (x .answer .now)
     (start (asked .before) .pre) _ (asked .refusal .ensures) (omega (arith, passed c .if1 .left))
 
 accepted : tie.Need-returns-2
