@@ -1,2 +1,3 @@
--- The laws that proofs cite.
+-- The laws that proofs cite, and the theorem of specs/ByKind.antt.
 pub mod CommandLaw
+pub mod Theorems

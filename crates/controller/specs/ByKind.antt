@@ -14,3 +14,12 @@ module _ (γ : Geometry) where
   ComesTo k s c o =
       (kind value : ℕ) → kindNumbered kind value ≡ k
       → o ≡ step γ s (commandOf kind (c .block) (c .now) value (c .content) (c .proof) (c .answer))
+
+-- each kind has a number and a value that name it, so there is one outcome that a command of the kind can come to
+pub record Named (k : Kind) : Type 0 where
+  pub number : ℕ
+  pub value : ℕ
+  pub names : kindNumbered number value ≡ k
+
+unfoldable pub EveryKindNamed : Type 0
+EveryKindNamed = (k : Kind) → Named k

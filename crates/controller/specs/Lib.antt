@@ -1,2 +1,2 @@
--- What the contracts below `command` cite.
+-- What the contracts below `command` cite, and that it fixes the outcome.
 pub mod ByKind
