@@ -65,6 +65,10 @@ module _ {γ : Geometry} (σ : Proper γ) where
   pageBlock-place g = omega arith
 
   -- the number of data blocks has four bytes
+  pub dataBlocks-some : (groups : ℕ) → 1 ≤ groups → 1 ≤ dataBlocks γ groups
+  unfolding dataBlocks
+  dataBlocks-some groups h = omega (arith, mul-le-mul (σ .some-entries) h)
+
   pub dataBlocks-small : (groups : ℕ) → groups < 256 → dataBlocks γ groups < 2 ^ 32
   unfolding dataBlocks
   dataBlocks-small groups h = omega (arith, mul-le-mul (σ .few-entries) h)

@@ -1,5 +1,5 @@
 -- Laws of states and of the time left: when an entry has each, and what each says of the entry. Assumes nothing.
-use mathlib.Core.Path.{_≡_, refl, ap, _∙_}
+use mathlib.Core.Path.{_≡_, refl, ap, subst, _∙_}
 use mathlib.Core.List.{List}
 use mathlib.Core.Bool.{Bool, true, false, cond}
 use Prim.Native.Nat.{ℕ, zero, suc, _+_, _-_, _≤_, _<_, _^_}
@@ -21,7 +21,7 @@ use Rattle.lockpage.specs.declared.State.the-variants.{Free, Frozen, Cou
 use Rattle.lockpage.specs.Size.{wordSize}
 use Rattle.lockpage.specs.Entry.{flag, frozenFlag, unfrozenFlag, isFrozen}
 use Rattle.lockpage.specs.State.{state, stateNumber, timeLeft, timeLeftSize, timeLeftBytes}
-use Rattle.lockpage.proofs.EntryLaw.{frozen-true, frozen-false}
+use Rattle.lockpage.proofs.EntryLaw.{frozen-true, frozen-false, frozen-no}
 
 module _ (now : ℕ) (e : Entry) where
   pub state-frozen : isFrozen (e .stamp) ≡ true → state now e ≡ Frozen
@@ -59,6 +59,12 @@ module _ (now : ℕ) (e : Entry) where
   pub left-unfrozen : isFrozen (e .stamp) ≡ false → timeLeft now e ≡ pos (e .word) -ℤ pos now
   unfolding timeLeft
   left-unfrozen f = rw (timeLeft, f)
+
+-- what is free stays free
+pub stays-free : (now later : ℕ) (e : Entry) → now ≤ later → state now e ≡ Free → state later e ≡ Free
+stays-free now later e h f =
+    let free : Says now e Free = subst (Says now e) f (says now e) in
+    state-free later e (frozen-no (e .stamp) (free .0)) (omega (arith, free .1))
 
 -- a difference of two numbers: from the second on, and below it
 minus-ahead : (a b : ℕ) → b ≤ a → pos a -ℤ pos b ≡ pos (a - b)

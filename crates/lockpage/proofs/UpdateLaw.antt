@@ -1,5 +1,5 @@
 -- Laws of what an update stores: its limit, its stamp, its expiry, that it fits. Assumes nothing.
-use mathlib.Core.Path.{_≡_, refl, sym, _∙_}
+use mathlib.Core.Path.{_≡_, refl, ap, sym, _∙_}
 use mathlib.Core.Bool.{Bool, true, false, false≢true}
 use Prim.Native.Nat.{ℕ, zero, suc, _+_, _≤_, _<_, _^_}
 use native.Mathlib.Omega.{arith}
@@ -87,6 +87,10 @@ pub written-flag : (lock now : ℕ) (e : Entry) → flag (updated (Write lock) n
 unfolding updated
 written-flag lock now e = flag-stampOf now frozenFlag (omega arith)
 
+pub written-time : (lock now : ℕ) (e : Entry) → timeOfWrite (updated (Write lock) now e) ≡ now
+unfolding updated
+written-time lock now e = timeOfWrite-stampOf lock now frozenFlag (omega arith)
+
 -- an unfreeze
 pub unfrozen-word : (now : ℕ) (e : Entry) → updated Unfreeze now e .word ≡ expiryAt now (e .word)
 unfolding updated
@@ -139,3 +143,7 @@ unfolding allowed
 allowed-unfreeze Free e = absurd (false≢true e)
 allowed-unfreeze Frozen e = refl
 allowed-unfreeze Counting e = absurd (false≢true e)
+
+pub allowed-increment : (value : ℕ) (s : State) → allowed (Increment value) s ≡ true → s ≡ Free → ⊥
+unfolding allowed
+allowed-increment value s e free = false≢true (ap (allowed (Increment value)) (sym free) ∙ e)

@@ -16,7 +16,7 @@ use Rattle.disk.proofs.DiskLaw.{block-are}
 use Rattle.memory.specs.Memory.{lastTime, held, none}
 use Rattle.machine.specs.Command.{Box, Command, kindOf}
 use Rattle.machine.specs.Step.{step, Accepted}
-use Rattle.machine.specs.Run.{Event, Given, Queried, after, run, Throughout}
+use Rattle.machine.specs.Run.{Event, Given, Queried, timeOf, after, run, Throughout}
 use Rattle.machine.specs.Protection.{Unforged, NotUnfrozen, CommandShows, Shows, startContent, startEntry, earliestExpiry, Protected, FrozenUnder}
 use Rattle.machine.specs.Protection.{CountingTo, NeverUnfrozen, ShowsStart, ShownIn, SeenAlike}
 use Rattle.machine.proofs.KindLaw.{unfreeze-number}
@@ -24,12 +24,8 @@ use Rattle.machine.proofs.QuestionLaw.{all-yes}
 use Rattle.machine.proofs.StepLaw.{step-number, accepts}
 use Rattle.machine.proofs.PassedLaw.{passed}
 use Rattle.machine.proofs.SafeLaw.{Watch, Locked, Kept}
-use Rattle.machine.proofs.ShownLaw.{Fair, event-shown, run-kept}
-
--- when an event is
-abbrev pub timeOf : Event → ℕ
-timeOf (Given c) = c .now
-timeOf (Queried q) = q .now
+use Rattle.machine.proofs.KeptLaw.{Fair, run-kept}
+use Rattle.machine.proofs.ShownLaw.{event-shown}
 
 -- γ is the box's geometry
 module _ (γ : Geometry) where
@@ -65,6 +61,31 @@ module _ {γ : Geometry} (σ : Proper γ) where
   )
   fair w s (Queried q ∷ es) u n = (tt, fair w (after γ s (Queried q)) es (u .1) (λ f. n f .1))
 
+  -- with none held, a block that its entry protects until the bound is kept
+  pub start-kept : (s : Box) (b bound : ℕ) (forever : Bool) → AreBytes (s .disk) → held γ (s .memory) ≡ none
+      → Locked (watch γ s b bound forever) (startEntry γ s b) → Kept γ (watch γ s b bound forever) s
+  unfolding watch
+  start-kept s b bound forever bytes none-held locked =
+      let page = block γ (s .disk) (pageBlock γ (groupOf γ b)) in
+      record {
+        begun = omega arith;
+        safe =
+            λ l.
+            record {
+              disk =
+                  record {
+                    content = refl;
+                    page =
+                        record {
+                          fits = entryAt-fits page (placeOf γ b) (block-are σ (s .disk) (pageBlock γ (groupOf γ b)) bytes);
+                          time = refl;
+                          locked = locked;
+                        };
+                  };
+              held = λ m e. absurd (m none-held);
+            };
+      }
+
   module _ (s₀ : Box) (b : ℕ) (In : (ℕ → Type 0) → Box → Event → Type 0) (claim : Claim γ s₀ b In) (bytes : AreBytes (s₀ .disk))
       (none-held : held γ (s₀ .memory) ≡ none) where
     -- the claim before the bound, where the start's entry protects the block until then
@@ -74,26 +95,7 @@ module _ {γ : Geometry} (σ : Proper γ) where
     unfolding watch
     before bound forever locked es u n =
         let w = watch γ s₀ b bound forever in
-        run-kept σ (In (λ t. t < bound)) w (claim .kept bound forever) s₀ es (fair w s₀ es u n)
-        (record {
-          begun = omega arith;
-          safe =
-              λ l.
-              record {
-                disk =
-                    record {
-                      content = refl;
-                      page =
-                          record {
-                            fits = entryAt-fits (block γ (s₀ .disk) (pageBlock γ (groupOf γ b))) (placeOf γ b)
-                                (block-are σ (s₀ .disk) (pageBlock γ (groupOf γ b)) bytes);
-                            time = refl;
-                            locked = locked;
-                          };
-                    };
-                held = λ m e. absurd (m none-held);
-              };
-        })
+        run-kept σ w (In (λ t. t < bound)) (claim .kept bound forever) s₀ es (fair w s₀ es u n) (start-kept s₀ b bound forever bytes none-held locked)
 
     module _ (xs ys : List Event) where
       -- the three cases put together

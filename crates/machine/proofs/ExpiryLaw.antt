@@ -37,8 +37,7 @@ use Rattle.machine.proofs.PassedLaw.{changes, changed-group}
 use Rattle.machine.proofs.AfterLaw.{accepted-after}
 use Rattle.machine.proofs.CurrentLaw.{brings-current, own-fits, own-entry}
 use Rattle.machine.proofs.SafeLaw.{Watch, Safe, SafeBox, Kept}
-use Rattle.machine.proofs.KeptLaw.{begun-kept}
-use Rattle.machine.proofs.ShownLaw.{run-kept, accepted-kept}
+use Rattle.machine.proofs.KeptLaw.{run-kept, accepted-kept}
 use Rattle.machine.proofs.AlikeLaw.{fair}
 use Rattle.machine.proofs.NotFreeLaw.{free-number, state-shown-as, event-not-free}
 use Rattle.machine.proofs.TrackedLaw.{Tracked, StaysKnown, run-tracked}
@@ -169,8 +168,7 @@ module _ {γ : Geometry} (σ : Proper γ) where
     kept : startEntry γ s (c .block) ≡ currentEntry γ s (c .block) → Kept γ unfrozenWatch (step γ s c .box)
     unfolding unfrozenWatch
     kept same =
-        accepted-kept σ unfrozenWatch (Change Unfreeze) s c kind passes (x .unforged .0, λ r k b f. false≢true f)
-        (λ q. begun-kept σ unfrozenWatch s (c .now) q refl (box-safe same))
+        accepted-kept σ unfrozenWatch s c passes (x .unforged .0, λ r k b f. false≢true f) (omega arith) (λ l. box-safe same)
 
     module _ (during : ℕ → Type 0) (before : (now : ℕ) → during now → now < expiryAt (c .now) (currentEntry γ s (c .block) .word)) where
       earlier : (t : Box) (e : Event)
@@ -181,7 +179,7 @@ module _ {γ : Geometry} (σ : Proper γ) where
       on-disk : startEntry γ s (c .block) ≡ currentEntry γ s (c .block) → Throughout γ (NotShownFree γ (c .block) during) (step γ s c .box) es
       unfolding unfrozenWatch
       on-disk same =
-          run-kept σ (NotShownFree γ (c .block) during) unfrozenWatch (λ t e h. earlier t e (event-not-free σ unfrozenWatch t e h)) (step γ s c .box) es
+          run-kept σ unfrozenWatch (NotShownFree γ (c .block) during) (λ t e h. earlier t e (event-not-free σ unfrozenWatch t e h)) (step γ s c .box) es
           (fair σ unfrozenWatch (step γ s c .box) es (x .unforged .1) (λ f. absurd (false≢true f))) (kept same)
 
       pub unfrozen-not-free : LockStays γ s c es → Throughout γ (NotShownFree γ (c .block) during) (step γ s c .box) es

@@ -92,6 +92,10 @@ pub unfreeze-kind : (n value : ℕ) → n ≡ 5 → kindNumbered n value ≡ Cha
 unfolding kindNumbered
 unfreeze-kind n value e = ap (λ (k : ℕ). getD (Unknown ∷ kinds value) k Unknown) e
 
+pub sync-kind : (n value : ℕ) → n ≡ 7 → kindNumbered n value ≡ Sync
+unfolding kindNumbered
+sync-kind n value e = ap (λ (k : ℕ). getD (Unknown ∷ kinds value) k Unknown) e
+
 pub restart-kind : (n value : ℕ) → n ≡ 8 → kindNumbered n value ≡ Restart
 unfolding kindNumbered
 restart-kind n value e = ap (λ (k : ℕ). getD (Unknown ∷ kinds value) k Unknown) e

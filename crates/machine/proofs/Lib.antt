@@ -29,6 +29,8 @@ pub mod ExampleQueryLaw
 pub mod ExampleRun
 pub mod ExamplePremises
 pub mod ExampleLeaving
+pub mod WatchedLaw
+pub mod WatchedRunLaw
 pub mod SafeLaw
 pub mod KeptLaw
 pub mod ShownLaw

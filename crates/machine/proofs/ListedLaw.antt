@@ -71,6 +71,18 @@ module _ {A : Type 0} (f : ℕ → A) where
   listed-length i zero = refl
   listed-length i (suc n) = ap suc (listed-length (suc i) n)
 
+  -- in two; k is computed
+  pub listed-split : (i n m k : ℕ) → k ≡ n + m → listed f i k ≡ listed f i n ++ listed f (i + n) m
+  unfolding listed
+  listed-split i zero m k e =
+      let here : i ≡ i + 0 = omega arith in
+      let all : k ≡ m = omega arith in
+      ap₂ (listed f) here all
+  listed-split i (suc n) m zero e = absurd (omega arith)
+  listed-split i (suc n) m (suc k) e =
+      let on : suc i + n ≡ i + suc n = omega arith in
+      ap (λ (l : List A). f i ∷ l) (listed-split (suc i) n m k (omega arith) ∙ ap (λ (j : ℕ). listed f (suc i) n ++ listed f j m) on)
+
   pub map-listed : {B : Type 0} (g : A → B) (i n : ℕ) → map g (listed f i n) ≡ listed (λ j. g (f j)) i n
   unfolding listed
   map-listed g i zero = refl

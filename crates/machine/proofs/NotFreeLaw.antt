@@ -21,7 +21,7 @@ use Rattle.machine.specs.Tag.{currentEntry}
 use Rattle.machine.specs.Effect.{statePlace}
 use Rattle.machine.specs.Step.{step}
 use Rattle.machine.specs.Query.{blockNumber, shownSize, queryStep}
-use Rattle.machine.specs.Run.{Event, Given, Queried, Throughout}
+use Rattle.machine.specs.Run.{Event, Given, Queried, timeOf, Throughout}
 use Rattle.machine.specs.Protection.{Unforged}
 use Rattle.machine.specs.NotFree.{StateShown, NotShownFree, NeverFree}
 use Rattle.machine.proofs.KindLaw.{entry-kind}
@@ -33,7 +33,7 @@ use Rattle.machine.proofs.AnswerLaw.{state-answer}
 use Rattle.machine.proofs.QueryShownLaw.{state-shown, number-below}
 use Rattle.machine.proofs.SafeLaw.{Watch, Kept, safe-not-free}
 use Rattle.machine.proofs.ShownLaw.{current-safe}
-use Rattle.machine.proofs.AlikeLaw.{timeOf, watch, Claim, command-early, both-hold}
+use Rattle.machine.proofs.AlikeLaw.{watch, Claim, command-early, both-hold}
 
 -- the byte of a part of one
 pub byte-of : (l : List ℕ) (at x : ℕ) → part l at 1 ≡ x ∷ [] → getD l at 0 ≡ x

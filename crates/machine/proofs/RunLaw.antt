@@ -2,7 +2,7 @@
 use mathlib.Core.List.{List, [], _∷_, _++_}
 use Rattle.lockpage.specs.Geometry.{Geometry, Proper}
 use Rattle.machine.specs.Command.{Box}
-use Rattle.machine.specs.Run.{Event, after, Throughout}
+use Rattle.machine.specs.Run.{Event, after, run, Throughout}
 
 -- γ is any proper geometry
 module _ {γ : Geometry} (σ : Proper γ) where
@@ -21,3 +21,9 @@ module _ {γ : Geometry} (σ : Proper γ) where
       → ((s : Box) (e : Event) → C s e → I s → I (after γ s e)) → (s : Box) (es : List Event) → Throughout γ C s es → I s → Throughout γ P s es
   run-invariant I C P each next s [] c i = tt
   run-invariant I C P each next s (e ∷ es) c i = (each s e i, run-invariant I C P each next (after γ s e) es (c .1) (next s e (c .0) i))
+
+  -- and the invariant holds at the end
+  pub invariant-after : (I : Box → Type 0) (C : Box → Event → Type 0) → ((s : Box) (e : Event) → C s e → I s → I (after γ s e))
+      → (s : Box) (es : List Event) → Throughout γ C s es → I s → I (run γ s es)
+  invariant-after I C next s [] c i = i
+  invariant-after I C next s (e ∷ es) c i = invariant-after I C next (after γ s e) es (c .1) (next s e (c .0) i)

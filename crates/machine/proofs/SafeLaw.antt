@@ -3,19 +3,16 @@
 -- An entry is safe if it has the start's time of write and holds the block until the bound: frozen under a lock whose expiry, were
 -- it unfrozen at the start's time, is the bound or later, or frozen in a run that never unfreezes it, or counting to the bound or
 -- later. No update that is allowed before the bound makes a safe entry unsafe: a write is not allowed, an unfreeze counts from no
--- earlier than the start, an increment only adds. A box is safe if the content is the start's and the entry is safe both on the
--- disk's page and, where the block's group is held, on the held page: a restart falls back to the disk's, a sync or an eviction puts
--- the held one there. A box is kept if it is safe while its last time is below the bound; from there on nothing is claimed, so
--- nothing is to be shown of a later write.
-use mathlib.Core.Path.{_≡_, refl, ap, sym, subst, _∙_}
+-- earlier than the start, an increment only adds. A box is safe if the content is the start's and the entry is safe on each page that
+-- may become current (WatchedLaw.antt). A box is kept if it is safe while its last time is below the bound; from there on nothing is
+-- claimed, so nothing is to be shown of a later write.
+use mathlib.Core.Path.{_≡_, refl, ap, subst, _∙_}
 use mathlib.Core.Bool.{Bool, true}
 use mathlib.Core.Logic.{_⊎_, inl, inr, ⊎-elim}
 use mathlib.Core.List.{List}
 use Prim.Native.Nat.{ℕ, _≤_, _<_}
 use native.Mathlib.Omega.{arith}
-use lib.ListN.{length}
-use Rattle.lockpage.specs.Geometry.{Geometry, Proper}
-use Rattle.lockpage.specs.Size.{pageSize}
+use Rattle.lockpage.specs.Geometry.{Geometry}
 use Rattle.lockpage.specs.declared.Entry.{Entry}
 use Rattle.lockpage.specs.declared.State.the-variants.{Free}
 use Rattle.lockpage.specs.declared.Update.{Update}
@@ -23,19 +20,14 @@ use Rattle.lockpage.specs.declared.Update.the-variants.{Write, Unfreeze, Increm
 use Rattle.lockpage.specs.Entry.{EntryFits, timeOfWrite, flag, frozenFlag, unfrozenFlag}
 use Rattle.lockpage.specs.State.{state}
 use Rattle.lockpage.specs.Update.{latestTime, expiryAt, updated, allowed, withinLimit}
-use Rattle.lockpage.specs.Page.{entryAt, withEntry}
+use Rattle.lockpage.specs.Page.{entryAt}
 use Rattle.lockpage.proofs.StateLaw.{Says, says}
 use Rattle.lockpage.proofs.UpdateLaw.{expiry-later, expiry-longer, updated-fits, unfrozen-word, unfrozen-flag, unfrozen-time, grown-word, grown-stamp}
 use Rattle.lockpage.proofs.UpdateLaw.{grown-time, allowed-write, allowed-unfreeze}
-use Rattle.addressing.specs.Map.{diskSize, groupOf, placeOf, physical, pageBlock}
-use Rattle.disk.specs.Disk.{block, withBlock}
-use Rattle.disk.proofs.DiskLaw.{withBlock-length, block-same, block-other, block-within}
-use Rattle.memory.specs.Memory.{lastTime, held, none, heldPage}
+use Rattle.addressing.specs.Map.{placeOf}
+use Rattle.memory.specs.Memory.{lastTime}
 use Rattle.machine.specs.Command.{Box}
-use Rattle.machine.specs.Effect.{Store, stored}
-use Rattle.machine.proofs.CaseLaw.{same-or-not}
-use Rattle.machine.proofs.EffectLaw.{EachStore, Whole, each-keeps}
-use Rattle.machine.proofs.CurrentLaw.{entry-replaced}
+use Rattle.machine.proofs.WatchedLaw.{Watched}
 
 -- what is watched: a block, its content and time of write at the start, the time before which it is protected, the start's last time,
 -- and whether no command unfreezes it
@@ -110,56 +102,10 @@ module _ (γ : Geometry) where
   abbrev pub SafePage : Watch → List ℕ → Type 0
   SafePage w p = Safe w (entryAt p (placeOf γ (w .block)))
 
-  pub record SafeDisk (w : Watch) (d : List ℕ) : Type 0 where
-    pub content : block γ d (physical γ (w .block)) ≡ w .content
-    pub page : SafePage w (block γ d (pageBlock γ (groupOf γ (w .block))))
-
-  -- a store that leaves the disk safe: not of the block, and of its group's page only with a safe entry
-  pub record Harmless (w : Watch) (groups : ℕ) (x : Store) : Type 0 where
-    pub whole : Whole γ groups x
-    pub not-content : physical γ (w .block) ≡ x .place → ⊥
-    pub page : pageBlock γ (groupOf γ (w .block)) ≡ x .place → SafePage w (x .bytes)
-
-  pub record SafeBox (w : Watch) (s : Box) : Type 0 where
-    pub disk : SafeDisk w (s .disk)
-    pub held : (held γ (s .memory) ≡ none → ⊥) → held γ (s .memory) ≡ groupOf γ (w .block) → SafePage w (heldPage γ (s .memory))
+  -- the content is the start's, and the entry is safe on each page
+  abbrev pub SafeBox : Watch → Box → Type 0
+  SafeBox w s = Watched γ (w .block) (λ l. l ≡ w .content) (Safe w) s
 
   pub record Kept (w : Watch) (s : Box) : Type 0 where
     pub begun : w .start ≤ lastTime γ (s .memory)
     pub safe : lastTime γ (s .memory) < w .bound → SafeBox w s
-
--- γ is any proper geometry
-module _ {γ : Geometry} (σ : Proper γ) where
-  -- ---- pages
-
-  -- an entry replaced: the block's by a safe one, or another's
-  pub safe-page : (w : Watch) (p : List ℕ) (a : ℕ) (e : Entry) → length p ≡ pageSize γ → SafePage γ w p
-      → (placeOf γ a ≡ placeOf γ (w .block) → Safe w e) → SafePage γ w (withEntry p (placeOf γ a) e)
-  safe-page w p a e l h own = entry-replaced σ (Safe w) p a (w .block) e l h (λ here. (own here .fits, own here))
-
-  -- ---- disks
-
-  store-safe : (w : Watch) (groups : ℕ) (d : List ℕ) (x : Store) → Harmless γ w groups x
-      → (length d ≡ diskSize γ groups) × SafeDisk γ w d
-      → (length (withBlock γ d (x .place) (x .bytes)) ≡ diskSize γ groups) × SafeDisk γ w (withBlock γ d (x .place) (x .bytes))
-  store-safe w groups d x h s =
-      let q = x .place in
-      let new = x .bytes in
-      let size = h .whole .size in
-      let inside = block-within σ d groups q (s .0) (h .whole .place) in
-      let page = pageBlock γ (groupOf γ (w .block)) in
-      let here : page ≡ q → SafePage γ w (block γ (withBlock γ d q new) page) =
-      λ e. subst (SafePage γ w) (sym (ap (block γ (withBlock γ d q new)) e ∙ block-same σ d q new size inside)) (h .page e) in
-      let other : (page ≡ q → ⊥) → SafePage γ w (block γ (withBlock γ d q new) page) =
-      λ e. subst (SafePage γ w) (sym (block-other σ d q new size inside page e)) (s .1 .page) in (
-        withBlock-length σ d q new size inside ∙ s .0,
-        record {
-          content = block-other σ d q new size inside (physical γ (w .block)) (h .not-content) ∙ s .1 .content;
-          page = same-or-not page q here other;
-        },
-      )
-
-  pub stores-safe : (w : Watch) (groups : ℕ) (d : List ℕ) (xs : List Store) → EachStore (Harmless γ w groups) xs
-      → length d ≡ diskSize γ groups → SafeDisk γ w d → SafeDisk γ w (stored γ d xs)
-  stores-safe w groups d xs h l s =
-      each-keeps σ (λ (d : List ℕ). (length d ≡ diskSize γ groups) × SafeDisk γ w d) (Harmless γ w groups) (store-safe w groups) d xs h (l, s) .1

@@ -1,6 +1,7 @@
 -- A run: a list of events, each with the box that the one before left, after document 01, "The two runs". Assumes nothing: these are
 -- definitions.
 use mathlib.Core.List.{List, [], _∷_}
+use Prim.Native.Nat.{ℕ}
 use Rattle.lockpage.specs.Geometry.{Geometry}
 use Rattle.machine.specs.Command.{Box, Command}
 use Rattle.machine.specs.Step.{step}
@@ -11,6 +12,11 @@ use Rattle.machine.specs.Query.{Query, queryStep}
 pub data Event : Type 0 where
   Given : Command → Event
   Queried : Query → Event
+
+-- "A command is timed by its now"
+abbrev pub timeOf : Event → ℕ
+timeOf (Given c) = c .now
+timeOf (Queried q) = q .now
 
 -- γ is the box's geometry
 module _ (γ : Geometry) where
