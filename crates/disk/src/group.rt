@@ -4,10 +4,20 @@ ghost use Prim.Native.Nat.{_<_};
 ghost use lib.ListN.{length};
 ghost use Rattle.lockpage.specs.Geometry.{present};
 ghost use Rattle.lockpage.specs.Page.{entryAt};
-ghost use Rattle.addressing.specs.Map.{groupSize, pagePlace};
+ghost use Rattle.addressing.specs.Map.{groupBlocks, groupSize, pagePlace};
 ghost use Rattle.disk.specs.Disk.{block, withBlock};
 ghost use Rattle.disk.specs.Ready.{PlaceReady};
 use lockpage::Entry;
+
+// The block at a place, to be read where it lies.
+pub fn lend_block(group: &[u8], place: usize) -> &[u8]
+    requires { ⌜ (length (now group) ≡ groupSize present) × (place < groupBlocks present) ⌝ }
+    ensures { λ r. ⌜ now r ≡ block present (now (group .entry)) place ⌝ }
+{
+    let from = addressing::block_start(place);
+    let to = from + addressing::BLOCK_SIZE;
+    &group[from..to]
+}
 
 // Copies the block at a place into out.
 pub fn read_block(group: &[u8], place: usize, out: &mut [u8])
@@ -33,7 +43,5 @@ pub fn load_entry(group: &[u8], i: usize) -> Entry
     requires { ⌜ (length (now group) ≡ groupSize present) × (i < present .entries) ⌝ }
     ensures { λ r. ⌜ r ≡ entryAt (block present (now (group .entry)) (pagePlace present)) i ⌝ }
 {
-    let from = addressing::block_start(addressing::PAGE_PLACE);
-    let to = from + addressing::BLOCK_SIZE;
-    lockpage::entries::load_entry(&group[from..to], i)
+    lockpage::entries::load_entry(lend_block(group, addressing::PAGE_PLACE), i)
 }

@@ -20,6 +20,15 @@ pub fn extent(disk: &[u8], group: u32) -> &[u8]
     &disk[from..to]
 }
 
+// A data block, to be read where it lies.
+pub fn lend_block(disk: &[u8], block: u32) -> &[u8]
+    requires { ⌜ HasGroup present (now disk) (groupOf present block) ⌝ }
+    ensures { λ r. ⌜ now r ≡ blockAt present (now (disk .entry)) (physical present block) ⌝ }
+{
+    let lent = extent(disk, addressing::group_of(block));
+    crate::group::lend_block(lent, addressing::place_of(block))
+}
+
 // Copies a data block into out.
 pub fn read_block(disk: &[u8], block: u32, out: &mut [u8])
     requires { ⌜ HasGroup present (now disk) (groupOf present block) × (length (now out) ≡ blockSize present) ⌝ }
