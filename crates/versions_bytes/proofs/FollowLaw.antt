@@ -2,7 +2,7 @@
 use mathlib.Core.Path.{_≡_, refl, ap, sym, subst, _∙_}
 use mathlib.Core.Bool.{true}
 use mathlib.Core.List.{List, [], _∷_}
-use mathlib.Core.Option.{some, none}
+use mathlib.Core.Option.{Option·none-ne-some}
 use Prim.Native.Nat.{ℕ, _≤_}
 use native.Mathlib.Omega.{arith}
 use borrow.Author.Tests.{eq-eqb, ne-eqb}
@@ -128,7 +128,7 @@ module _ {γ : Geometry} (σ : Proper γ) where
           fits =
               record {
                 sound = facts-sound σ (start (ρ .first) lock) (record { least = l .0; most = l .1; room = least });
-                newest = λ part b x. absurd (no-block b x);
+                newest = λ part b x. absurd (Option·none-ne-some b x);
                 no-more = λ part m. refl;
                 records = all-none (isRecord γ);
                 reserve = omega arith;
@@ -137,6 +137,3 @@ module _ {γ : Geometry} (σ : Proper γ) where
           state = rw (startBytes, eq-eqb (firstNo qs) 0 e);
           box = refl;
         }
-      where
-        no-block : (b : ℕ) → none ≡ some b → ⊥
-        no-block b e = let z : _≡_ {A = ℕ} 0 1 = cc in omega arith

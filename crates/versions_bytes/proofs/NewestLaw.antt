@@ -44,7 +44,7 @@ newests-split newest from (suc a) b n e =
     ∙ ap (λ (k : ℕ). newestBytes newest (from + 1) a ++ (blockBytes (newest k) ++ newestBytes newest (k + 1) b)) at)
     ∙ sym (append-assoc (blockBytes (newest from)) (newestBytes newest (from + 1) a) _)
 
-newests-same : (f g : ℕ → Option ℕ) (from n : ℕ) → ((k : ℕ) → from ≤ k → k < from + n → f k ≡ g k) → newestBytes f from n ≡ newestBytes g from n
+pub newests-same : (f g : ℕ → Option ℕ) (from n : ℕ) → ((k : ℕ) → from ≤ k → k < from + n → f k ≡ g k) → newestBytes f from n ≡ newestBytes g from n
 unfolding newestBytes
 newests-same f g from zero h = refl
 newests-same f g from (suc n) h =

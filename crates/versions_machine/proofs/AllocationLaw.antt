@@ -50,6 +50,19 @@ from-in a (suc n) k h =
     ⊎-elim (λ e. (omega arith, omega arith))
     (λ t. let r = from-in (a + 1) n k t in (omega (arith, r .0), omega (arith, r .1))) h
 
+-- ---- those that pass
+
+pub those-append : {A : Type 0} (test : A → Bool) (l m : List A) → those test (l ++ m) ≡ those test l ++ those test m
+unfolding those
+those-append test [] m = refl
+those-append {A} test (a ∷ l) m = go (those-append test l m) (test a)
+  where
+    go : those test (l ++ m) ≡ those test l ++ those test m → (b : Bool)
+        → elim b [ true ↦ a ∷ those test (l ++ m) | false ↦ those test (l ++ m) ]
+        ≡ elim b [ true ↦ a ∷ those test l | false ↦ those test l ] ++ those test m
+    go e true = ap (λ (x : List A). a ∷ x) e
+    go e false = e
+
 -- ---- the first that passes, and how many do
 
 pub first-passes : (test : ℕ → Bool) (l : List ℕ) (other k : ℕ) → In k l → test k ≡ true → test (firstThat test l other) ≡ true

@@ -12,7 +12,7 @@ use Rattle.machine.proofs.StepLaw.{accepts}
 use Rattle.versions_machine.specs.Versions.{Record, replacedBy}
 use Rattle.versions_machine.specs.Log.{logBlock}
 use Rattle.versions_machine.specs.Plan.{writing, given}
-use Rattle.versions_machine.specs.History.{Locked, lockedOf, Link, recordsOf, firstOf, told, Holds, Chained}
+use Rattle.versions_machine.specs.History.{Locked, lockedOf, Link, recordsOf, firstOf, NotIn, told, Holds, Chained}
 use Rattle.versions_machine.proofs.HoldsLaw.{other-holds, write-other}
 
 -- ---- records
@@ -32,11 +32,6 @@ records-end (m ∷ ls) l = ap (λ (x : List Record). m .records ++ x) (records-e
 pub first-end : (ls : List Link) (l : Link) (end : ℕ) → firstOf (ls ++ (l ∷ [])) end ≡ firstOf ls (l .block)
 first-end [] l end = refl
 first-end (m ∷ ls) l end = refl
-
--- b is none of the log blocks
-abbrev pub NotIn : ℕ → List Link → Type 0
-NotIn b [] = Unit
-NotIn b (l ∷ ls) = (b ≡ l .block → ⊥) × NotIn b ls
 
 pub not-in-end : (b : ℕ) (ls : List Link) (l : Link) → NotIn b ls → (b ≡ l .block → ⊥) → NotIn b (ls ++ (l ∷ []))
 not-in-end b [] l h n = (n, tt)

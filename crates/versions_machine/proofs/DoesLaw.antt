@@ -26,13 +26,14 @@ use Rattle.versions_machine.specs.Allocation.{isAvailable, nextFor}
 use Rattle.versions_machine.specs.Plan.{Order, Plan, Carried, planOf, writing, unfreezing, unfreezes, given, carriedOut, logPlan, duePlan, versionOrders}
 use Rattle.versions_machine.specs.Plan.{putPlan}
 use Rattle.versions_machine.specs.Call.{resultOf, put, putQuestions, flush, flushQuestions, flushPlan, boxQuestions}
-use Rattle.versions_machine.specs.After.{StillValid, fills, between, PutDoes, FlushDoes}
-use Rattle.versions_machine.proofs.AllocationLaw.{available-free, available-same, next-available, two-available}
+use Rattle.versions_machine.specs.After.{InBox, StillValid, fills, between, PutDoes, FlushDoes}
+use Rattle.versions_machine.specs.History.{Each}
+use Rattle.versions_machine.proofs.AllocationLaw.{Another, available-free, available-same, next-available, two-available}
 use Rattle.versions_machine.proofs.CarryLaw.{carried-first, accepted-done}
 use Rattle.versions_machine.proofs.SoundLaw.{chosen}
 use Rattle.versions_machine.proofs.AcceptLaw.{put-asked, put-yes, put-at}
 use Rattle.versions_machine.proofs.FactsLaw.{sound-facts, facts-sound, logged-sound}
-use Rattle.versions_machine.proofs.OrdersLaw.{Each, carried-groups, NotWritten, carried-append, carried-content, carried-valid, own-entry}
+use Rattle.versions_machine.proofs.OrdersLaw.{each-append, carried-groups, NotWritten, carried-append, carried-content, carried-valid, own-entry}
 
 module _ {γ : Geometry} (σ : Proper γ) (ρ : Range) where
   still-valid : (s t : Box) (ν : Versions) (now block : ℕ) → ValidBox γ s → ValidBox γ t → groups γ (t .memory) ≡ groups γ (s .memory)
@@ -56,10 +57,6 @@ module _ {γ : Geometry} (σ : Proper γ) (ρ : Range) where
       write-free σ (ν .lock) t (ν .reserve) now content (accepts σ t (given γ t o) (carried-first γ t o [] c))
 
   -- ---- a put
-
-  pub each-append : (Q : Order → Type 0) (xs ys : List Order) → Each Q xs → Each Q ys → Each Q (xs ++ ys)
-  each-append Q [] ys h k = k
-  each-append Q (x ∷ xs) ys h k = (h .0, each-append Q xs ys (h .1) k)
 
   -- what holds of an unfreeze, and of a log block's write, holds of each order that there is
   pub unfreezes-each : (Q : Order → Type 0) (now : ℕ) (x : Option ℕ) → ((old : ℕ) → x ≡ some old → Q (unfreezing old now)) → Each Q (unfreezes x now)
@@ -119,6 +116,25 @@ module _ {γ : Geometry} (σ : Proper γ) (ρ : Range) where
           subst (λ (p : Plan). isSound γ (p .after) ≡ true) (sym (due-none e' t now e))
           (facts-sound σ e' (record { least = f .least; most = f .most; room = omega (arith, f .room, one, n) }))
 
+  -- in the box that the version's own commands left there is still a block to take
+  pub still-available : (ν : Versions) (s : Box) (part now : ℕ) (content : List ℕ) → AllYes (putQuestions γ ρ ν s part now) → InBox γ ρ s
+      → carriedOut γ s (versionOrders γ ν part (nextFor γ ρ s now ν) now content) .number ≡ 0
+      → Another (isAvailable γ (between γ ρ ν s part now content) now (ν .reserve)) (ρ .first) (ρ .number) (nextFor γ ρ s now ν)
+  unfolding putQuestions
+  still-available ν s part now content y inside c =
+      let block = nextFor γ ρ s now ν in
+      let two = two-available γ ρ s now ν block (y .1 .1 .1 .1 .1 .0) in
+      let k = two .block in
+      let l : k < dataBlocks γ (groups γ (s .memory)) = omega (arith, two .most) in
+      let same = own-entry σ ν s part block now content c k l (two .other) (available-free γ s now (ν .reserve) k (two .passes)) in
+      record {
+        block = k;
+        least = two .least;
+        most = two .most;
+        passes = available-same γ s (between γ ρ ν s part now content) now (ν .reserve) k same (two .passes);
+        other = two .other;
+      }
+
   does : (ν : Versions) (s : Box) (part now : ℕ) (content : List ℕ) → AllYes (putQuestions γ ρ ν s part now)
       → carriedOut γ s (putPlan γ ρ ν s part now content .orders) .number ≡ 0
       → PutDoes γ ρ ν s part now content
@@ -132,20 +148,16 @@ module _ {γ : Geometry} (σ : Proper γ) (ρ : Range) where
       let own = versionOrders γ ν part block now content in
       let due = duePlan γ ρ e t now in
       let two = two-available γ ρ s now ν block (y .1 .1 .1 .1 .1 .0) in
-      let k = two .block in
       let valid = carried-valid σ now s (writing block now (ν .lock) content) (unfreezes (ν .newest part) now ++ due .orders)
       (put-at σ ρ ν s part now content) c in
       record {
         answered = refl;
-        was-available = next-available γ ρ s now ν k (two .least) (two .most) (two .passes);
+        was-available = next-available γ ρ s now ν (two .block) (two .least) (two .most) (two .passes);
         next-reserve =
             λ full inside.
-            let l : k < dataBlocks γ (groups γ (s .memory)) = omega (arith, two .most) in
-            let same =
-            own-entry σ ν s part block now content (carried-append σ s own (due .orders) c .0) k l (two .other)
-            (available-free γ s now (ν .reserve) k (two .passes)) in
+            let one = still-available ν s part now content y inside (carried-append σ s own (due .orders) c .0) in
             subst (λ (p : Plan). isAvailable γ t now (ν .reserve) (p .after .reserve) ≡ true) (sym (due-full e t now full))
-            (next-available γ ρ t now e k (two .least) (two .most) (available-same γ s t now (ν .reserve) k same (two .passes)));
+            (next-available γ ρ t now e (one .block) (one .least) (one .most) (one .passes));
         same-reserve = λ x. subst (λ (p : Plan). p .after .reserve ≡ ν .reserve) (sym (due-none e t now x)) refl;
         log-free =
             λ full.
@@ -184,6 +196,12 @@ module _ {γ : Geometry} (σ : Proper γ) (ρ : Range) where
   unfolding flushPlan
   flush-plan ν s now n = rw (flushPlan, ne-eqb (length (ν .records)) 0 n)
 
+  pub flush-yes : (ν : Versions) (s : Box) (now : ℕ) → (length (ν .records) ≡ 0 → ⊥) → firstNo (flushQuestions γ ρ ν s now) ≡ 0
+      → AllYes (Put 1 (isSound γ ν) ∷ boxQuestions γ ρ ν s now)
+  unfolding numberedTo
+  flush-yes ν s now n e =
+      accepted-yes 14 (Put 1 (isSound γ ν) ∷ boxQuestions γ ρ ν s now) refl (ap firstNo (sym (flush-questions ν s now n)) ∙ e)
+
   flush-asked : (ν : Versions) (s : Box) (now : ℕ) → AllYes (Put 1 (isSound γ ν) ∷ boxQuestions γ ρ ν s now) → ValidBox γ s
   flush-asked ν s now y = record { memory = y .1 .0; disk = eqb-true (length (s .disk)) (diskSize γ (groups γ (s .memory))) (y .1 .1 .0) }
 
@@ -209,13 +227,11 @@ module _ {γ : Geometry} (σ : Proper γ) (ρ : Range) where
 
   pub flush-does : (ν : Versions) (s : Box) (now : ℕ) → flush γ ρ ν s now .number ≡ 0 → (length (ν .records) ≡ 0 → ⊥)
       → FlushDoes γ ρ ν s now (flush γ ρ ν s now)
-  unfolding flush numberedTo
+  unfolding flush
   flush-does ν s now a n =
       let d = accepted-done γ (flushQuestions γ ρ ν s now) 0 (flushPlan γ ρ ν s now) ν s a in
       let plan = flush-plan ν s now n in
-      let qs = flush-questions ν s now n in
       subst (FlushDoes γ ρ ν s now)
       (sym (d .result ∙ ap (λ (p : Plan). resultOf 0 0 (p .after) (carriedOut γ s (p .orders) .box)) plan))
-      (stores ν s now
-      (accepted-yes 14 (Put 1 (isSound γ ν) ∷ boxQuestions γ ρ ν s now) refl (ap firstNo (sym qs) ∙ d .asked))
+      (stores ν s now (flush-yes ν s now n (d .asked))
       (ap (λ (p : Plan). carriedOut γ s (p .orders) .number) (sym plan) ∙ d .carried))

@@ -39,7 +39,7 @@ use Rattle.versions_machine.proofs.AllocationLaw.{first-behind, many-tw
 use Rattle.versions_machine.proofs.ForesightLaw.{Foresees}
 use Rattle.versions_machine.proofs.FactsLaw.{lock-limits}
 
-blank-free : (now : ℕ) → state now blankEntry ≡ Free
+pub blank-free : (now : ℕ) → state now blankEntry ≡ Free
 unfolding flag
 blank-free now = state-free now blankEntry (frozen-no 1 refl) (omega arith)
 

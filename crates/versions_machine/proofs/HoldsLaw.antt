@@ -36,7 +36,7 @@ use Rattle.machine.specs.Claims.{ValidBox}
 use Rattle.machine.proofs.QuestionLaw.{all-yes}
 use Rattle.machine.proofs.StepLaw.{accepted-or-same}
 use Rattle.machine.proofs.TagLaw.{tagged-page, current-length}
-use Rattle.machine.proofs.PassedLaw.{passed, changes, timed-reads}
+use Rattle.machine.proofs.PassedLaw.{Timely, passed, changes, timed-reads}
 use Rattle.machine.proofs.TimedLaw.{current-timed}
 use Rattle.machine.proofs.QueryLaw.{query-passed, query-times, query-or-same}
 use Rattle.machine.proofs.ValidBoxLaw.{valid-box}
@@ -75,6 +75,26 @@ module _ {γ : Geometry} (σ : Proper γ) where
   quiet-content Identify disk c a q = refl
   quiet-content Unknown disk c a q = refl
 
+  quiet-entry : (s : Box) (c : Command) (b : ℕ) → refusal γ s c ≡ 0 → Quiet (kindOf c) → b < dataBlocks γ (groups γ (s .memory))
+      → currentEntry γ (step γ s c .box) b ≡ currentEntry γ s b
+  quiet-entry s c b r q l =
+      ap (λ (p : List ℕ). entryAt p (placeOf γ b))
+      (accepted-after σ s c r .page (groupOf γ b) (groupOf-below σ (groups γ (s .memory)) b l) ∙ quiet-page (kindOf c) s c (groupOf γ b) q)
+
+  timed-entry : (s : Box) (now b : ℕ) → Timely γ s now → currentEntry γ (timed γ s now) b ≡ currentEntry γ s b
+  timed-entry s now b t = ap (λ (p : List ℕ). entryAt p (placeOf γ b)) (current-timed σ s now t (groupOf γ b))
+
+  -- they leave every entry
+  pub event-entry : (s : Box) (e : Event) (b : ℕ) → QuietEvent e → b < dataBlocks γ (groups γ (s .memory))
+      → currentEntry γ (after γ s e) b ≡ currentEntry γ s b
+  event-entry s (Given c) b quiet l =
+      ⊎-elim (λ r. quiet-entry s c b r quiet l) (λ e. ap (λ (t : Box). currentEntry γ t b) e) (accepted-or-same σ s c)
+  event-entry s (Queried q) b quiet l =
+      ⊎-elim
+      (λ r. ap (λ (t : Box). currentEntry γ t b) (query-times σ s q r) ∙ timed-entry s (q .now) b (query-passed σ s q r .timely))
+      (λ e. ap (λ (t : Box). currentEntry γ t b) e)
+      (query-or-same σ s q)
+
   quiet-holds : (s : Box) (c : Command) (b : ℕ) (w : Locked) → Quiet (kindOf c) → Holds γ s b w → Holds γ (step γ s c .box) b w
   quiet-holds s c b w q h =
       ⊎-elim
@@ -82,10 +102,7 @@ module _ {γ : Geometry} (σ : Proper γ) where
       let after = accepted-after σ s c r in
       record {
         range = subst (λ (n : ℕ). b < dataBlocks γ n) (sym (after .same-groups)) (h .range);
-        entry =
-            ap (λ (p : List ℕ). entryAt p (placeOf γ b))
-            (after .page (groupOf γ b) (groupOf-below σ (groups γ (s .memory)) b (h .range)) ∙ quiet-page (kindOf c) s c (groupOf γ b) q)
-            ∙ h .entry;
+        entry = quiet-entry s c b r q (h .range) ∙ h .entry;
         stored = after .content b ∙ quiet-content (kindOf c) (s .disk) c b q ∙ h .stored;
       })
       (λ e. subst (λ (t : Box). Holds γ t b w) (sym e) h)
@@ -100,7 +117,7 @@ module _ {γ : Geometry} (σ : Proper γ) where
       subst (λ (x : Box). Holds γ x b w) (sym (query-times σ s q r))
       (record {
         range = subst (λ (n : ℕ). b < dataBlocks γ n) (sym (timed-reads σ s (q .now) t .groups)) (h .range);
-        entry = ap (λ (p : List ℕ). entryAt p (placeOf γ b)) (current-timed σ s (q .now) t (groupOf γ b)) ∙ h .entry;
+        entry = timed-entry s (q .now) b t ∙ h .entry;
         stored = h .stored;
       }))
       (λ e. subst (λ (t : Box). Holds γ t b w) (sym e) h)

@@ -31,13 +31,13 @@ use Rattle.versions_machine.specs.Allocation.{nextFor}
 use Rattle.versions_machine.specs.Plan.{Order, Plan, Carried, writing, unfreezing, unfreezes, given, carriedOut, logPlan, duePlan, versionOrders, putPlan}
 use Rattle.versions_machine.specs.Call.{Result, resultOf, put, putQuestions, flush, flushQuestions, flushPlan}
 use Rattle.versions_machine.specs.After.{between}
-use Rattle.versions_machine.specs.History.{Locked, lockedOf, Holds}
+use Rattle.versions_machine.specs.History.{Locked, lockedOf, Each, Holds}
 use Rattle.versions_machine.specs.Locks.{PutLocks}
 use Rattle.versions_machine.proofs.AllocationLaw.{available-other}
 use Rattle.versions_machine.proofs.HoldsLaw.{order-kind, order-yes, order-brings, other-holds, write-holds}
 use Rattle.versions_machine.proofs.CarryLaw.{carried-on, carried-first, carried-rest, accepted-done}
-use Rattle.versions_machine.proofs.OrdersLaw.{Each, carried-append, carried-keeps, order-entry}
-use Rattle.versions_machine.proofs.DoesLaw.{each-append, unfreezes-each, due-each, due-full, flush-plan, put-does}
+use Rattle.versions_machine.proofs.OrdersLaw.{each-append, carried-append, carried-keeps, order-entry}
+use Rattle.versions_machine.proofs.DoesLaw.{unfreezes-each, due-each, due-full, flush-plan, put-does}
 
 -- an order is of another block
 abbrev Elsewhere : ℕ → Order → Type 0
@@ -129,7 +129,7 @@ module _ {γ : Geometry} (σ : Proper γ) where
           let a = carried-first γ s o rest c in
           subst (λ (x : Carried). Holds γ (x .box) block (lockedOf content (ν .lock) now)) (sym (carried-on γ s o rest a))
           (keeps-holds block (lockedOf content (ν .lock) now) (step γ s (given γ s o) .box) rest
-          (each-append σ ρ (Elsewhere block) (unfreezes replaced now) (due .orders)
+          (each-append (Elsewhere block) (unfreezes replaced now) (due .orders)
           (unfreezes-each σ ρ (Elsewhere block) now replaced (λ old e x. n (e ∙ ap some (sym x))))
           (due-each σ ρ (Elsewhere block) (entered ν part block) t now (λ full log. other)))
           (carried-rest γ s o rest c) (write-holds σ (ν .lock) s block now content (accepts σ s (given γ s o) a)))

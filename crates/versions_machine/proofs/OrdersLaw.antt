@@ -34,14 +34,18 @@ use Rattle.machine.proofs.CurrentLaw.{brought-current, entry-other}
 use Rattle.versions_machine.specs.Versions.{Versions}
 use Rattle.versions_machine.specs.Plan.{Order, Carried, writing, unfreezing, unfreezes, given, carriedOut, versionOrders}
 use Rattle.versions_machine.specs.After.{SameContent}
+use Rattle.versions_machine.specs.History.{Each}
 use Rattle.versions_machine.proofs.HoldsLaw.{order-kind, order-yes, order-brings}
 use Rattle.versions_machine.proofs.CarryLaw.{carried-on, carried-first, carried-rest}
 use Rattle.versions_machine.proofs.ForesightLaw.{EachAt}
 
--- each order of a list
-abbrev pub Each : (Order → Type 0) → List Order → Type 0
-Each Q [] = Unit
-Each Q (o ∷ os) = Q o × Each Q os
+pub each-any : (os : List Order) → Each (λ (o : Order). Unit) os
+each-any [] = tt
+each-any (o ∷ os) = (tt, each-any os)
+
+pub each-append : {A : Type 0} (P : A → Type 0) (xs ys : List A) → Each P xs → Each P ys → Each P (xs ++ ys)
+each-append P [] ys h k = k
+each-append P (x ∷ xs) ys h k = (h .0, each-append P xs ys (h .1) k)
 
 -- a is not the block that an order writes
 abbrev pub NotWritten : ℕ → Update → ℕ → Type 0
@@ -79,10 +83,6 @@ module _ {γ : Geometry} (σ : Proper γ) where
   carried-groups s os h =
       carried-keeps (λ (t : Box). groups γ (t .memory) ≡ groups γ (s .memory)) (λ (o : Order). Unit)
       (λ t o r x p. accepted-after σ t (given γ t o) r .same-groups ∙ p) s os (each-any os) h refl
-    where
-      each-any : (os : List Order) → Each (λ (o : Order). Unit) os
-      each-any [] = tt
-      each-any (o ∷ os) = (tt, each-any os)
 
   not-written : (u : Update) (disk : List ℕ) (c : Command) (a : ℕ) → NotWritten a u (c .block)
       → contentAfter γ (Change u) disk c a ≡ diskBlock γ disk (physical γ a)

@@ -1,9 +1,9 @@
 -- On a formatted box the put that replaces a store's first version is accepted: its write, and its unfreeze. Assumes nothing.
 use mathlib.Core.Path.{_≡_, refl, ap, sym, subst, _∙_}
-use mathlib.Core.Bool.{Bool, true, false}
+use mathlib.Core.Bool.{true, false}
 use mathlib.Core.List.{List, [], _∷_, _++_}
 use mathlib.Core.Option.{Option, none}
-use Prim.Native.Nat.{ℕ, _+_, _≤_, _<_}
+use Prim.Native.Nat.{ℕ, _≤_, _<_}
 use native.Mathlib.Omega.{arith}
 use borrow.Author.Tests.{ne-eqb, le-leb, lt-ltb}
 use lib.ListN.{length}
@@ -18,36 +18,34 @@ use Rattle.lockpage.proofs.EntryLaw.{frozen-yes}
 use Rattle.lockpage.proofs.StateLaw.{state-frozen}
 use Rattle.lockpage.proofs.UpdateLaw.{written-flag, written-word, unfrozen-within}
 use Rattle.addressing.specs.Map.{dataBlocks, groupOf}
-use Rattle.addressing.proofs.MapLaw.{groupOf-below}
-use Rattle.memory.specs.Memory.{count, groups}
+use Rattle.memory.specs.Memory.{groups}
 use Rattle.validity.specs.Valid.{countLimit}
 use Rattle.machine.specs.Command.{Box}
 use Rattle.machine.specs.Tag.{currentEntry}
-use Rattle.machine.specs.Question.{refusal, firstNo}
+use Rattle.machine.specs.Question.{firstNo}
 use Rattle.machine.specs.Step.{step}
 use Rattle.machine.specs.Format.{format}
 use Rattle.machine.proofs.QuestionLaw.{yes-accepted}
-use Rattle.machine.proofs.StepLaw.{accepts}
-use Rattle.machine.proofs.AfterLaw.{accepted-after}
 use Rattle.versions_machine.specs.Versions.{Versions, start, entered}
 use Rattle.versions_machine.specs.Log.{recordsPerBlock, isFull}
-use Rattle.versions_machine.specs.Allocation.{firstBlock, wholeBox, isAvailable, nextFor}
-use Rattle.versions_machine.specs.Plan.{Order, Plan, writing, unfreezing, unfreezes, given, duePlan, versionOrders}
+use Rattle.versions_machine.specs.Allocation.{firstBlock, wholeBox, nextFor}
+use Rattle.versions_machine.specs.Plan.{Plan, writing, unfreezing, unfreezes, given, duePlan, versionOrders}
 use Rattle.versions_machine.specs.Foresight.{questionsLeft, countsAfter, entriesAfter, foreseen}
 use Rattle.versions_machine.specs.Call.{Result, lastPart, put, putQuestions}
 use Rattle.versions_machine.specs.Claims.{ReplacingPutIsAccepted, ordersFrom}
-use Rattle.versions_machine.proofs.ForesightLaw.{Foresees, foresees-next, foreseen-on, counts-few}
+use Rattle.versions_machine.proofs.ForesightLaw.{Foresees, foreseen-on, counts-few}
 use Rattle.versions_machine.proofs.AcceptLaw.{put-foreseen-by}
 use Rattle.versions_machine.proofs.FactsLaw.{facts-sound}
 use Rattle.versions_machine.proofs.DoesLaw.{due-none, put-does}
 use Rattle.versions_machine.proofs.SoundLaw.{newest-own}
-use Rattle.versions_machine.proofs.FreshLaw.{start-limits, blank-available, next-behind, two-behind, write-left, box-yes, Fresh, formatted}
-use Rattle.versions_machine.proofs.FreshLaw.{fresh-foresees}
-use Rattle.versions_machine.proofs.FirstLaw.{fresh-accepted, fresh-put}
+use Rattle.versions_machine.proofs.FreshLaw.{start-limits, next-behind, write-left, box-yes, Fresh, formatted}
+use Rattle.versions_machine.proofs.FirstLaw.{fresh-put}
+use Rattle.versions_machine.proofs.SecondLaw.{oneRecord, countsThen, entriesThen, boxThen, then-foresees, then-inside, then-available, then-two}
+use Rattle.versions_machine.proofs.SecondLaw.{then-few}
 
 module _ {γ : Geometry} (σ : Proper γ) where
   -- an unfreeze of a frozen block: what can still say no to it has yes, if its group's count is below the limit
-  unfreeze-left : (G b now n : ℕ) (e : Entry) → b < dataBlocks γ G → n < countLimit → flag (e .stamp) ≡ frozenFlag → e .word ≤ longestLock
+  pub unfreeze-left : (G b now n : ℕ) (e : Entry) → b < dataBlocks γ G → n < countLimit → flag (e .stamp) ≡ frozenFlag → e .word ≤ longestLock
       → now ≤ latestTime → firstNo (questionsLeft γ G n e (unfreezing b now)) ≡ 0
   unfreeze-left G b now n e inside few frozen short t =
       yes-accepted (questionsLeft γ G n e (unfreezing b now)) (
@@ -67,43 +65,24 @@ module _ {γ : Geometry} (σ : Proper γ) where
   module _ (g lock part first now : ℕ) (old content : List ℕ) (s : Box) (f : Fresh σ g s) (limits : (1 ≤ lock) × (lock ≤ longestLock))
       (order : first ≤ now) (t : now ≤ latestTime) (some-entries : 4 ≤ γ .entries) (some-blocks : 4 ≤ dataBlocks γ g) (p : part ≤ lastPart)
       (old-size : length old ≡ blockSize γ) (size : length content ≡ blockSize γ) where
-    -- the first version's write, and what it leaves
-    abbrev o : Order
-    o = writing 1 first lock old
-
+    -- the store and the box after the first version's write
     abbrev ν : Versions
-    ν = entered (start firstBlock lock) part 1
+    ν = oneRecord lock part
 
     abbrev counts : ℕ → ℕ
-    counts = countsAfter γ (count (s .memory)) o
+    counts = countsThen γ lock first old s
 
     abbrev entries : ℕ → Entry
-    entries = entriesAfter (currentEntry γ s) o
+    entries = entriesThen γ lock first old s
 
     abbrev s1 : Box
-    s1 = step γ s (given γ s o) .box
-
-    accepted : refusal γ s (given γ s o) ≡ 0
-    accepted =
-        accepts σ s (given γ s o)
-        (fresh-accepted σ g lock first s f limits (omega arith) (omega arith) (omega arith) 1 old (omega arith) old-size)
+    s1 = boxThen γ lock first old s
 
     foresees : Foresees σ now s1 counts entries
-    foresees =
-        let h = foresees-next σ first s (count (s .memory)) (currentEntry γ s) o (fresh-foresees σ g first s f (omega arith)) refl accepted in
-        record { valid = h .valid; later = omega (arith, h .later); early = t; counted = h .counted; found = h .found; fits = h .fits }
+    foresees = then-foresees σ g lock first now old s f limits order t some-entries some-blocks old-size
 
     inside : (a : ℕ) → a < dataBlocks γ g → a < dataBlocks γ (groups γ (s1 .memory))
-    inside a l = subst (λ (k : ℕ). a < dataBlocks γ k) (sym (accepted-after σ s (given γ s o) accepted .same-groups ∙ f .same-groups)) l
-
-    -- the blocks behind it are as they were
-    available : (a : ℕ) → 1 < a → a < dataBlocks γ g → isAvailable γ s1 now 0 a ≡ true
-    available a other l =
-        blank-available σ s1 now 0 a
-        (sym (foresees .found a (inside a l))
-        ∙ ap (λ (b : Bool). elim b [ true ↦ updated (Write lock) first (currentEntry γ s a) | false ↦ currentEntry γ s a ]) (ne-eqb a 1 (λ e. omega arith))
-        ∙ f .entries a l)
-        (λ e. omega arith)
+    inside = then-inside σ g lock first now old s f limits order t some-entries some-blocks old-size
 
     asked : firstNo (putQuestions γ (wholeBox γ g) ν s1 part now) ≡ 0
     unfolding putQuestions entered start
@@ -113,13 +92,15 @@ module _ {γ : Geometry} (σ : Proper γ) where
           (
             facts-sound σ ν (record { least = limits .0; most = limits .1; room = omega arith }),
             box-yes σ (wholeBox γ g) ν s1 now (foresees .valid) (foresees .later) t
-                (two-behind σ g s1 now 0 2 (omega arith) (available 2 (omega arith) (omega arith)) (available 3 (omega arith) (omega arith))),
+                (then-two σ g lock first now old s f limits order t some-entries some-blocks old-size),
           ),
         )
 
     next : nextFor γ (wholeBox γ g) s1 now ν ≡ 2
     unfolding entered start
-    next = next-behind σ g s1 now 0 1 (omega arith) (available 2 (omega arith) (omega arith))
+    next =
+        next-behind σ g s1 now 0 1 (omega arith)
+        (then-available σ g lock first now old s f limits order t some-entries some-blocks old-size 2 (omega arith) (omega arith))
 
     -- its two commands
     orders-are : ordersFrom γ (wholeBox γ g) s1 ν s1 part now content ≡ writing 2 now lock content ∷ unfreezing 1 now ∷ []
@@ -137,10 +118,8 @@ module _ {γ : Geometry} (σ : Proper γ) where
         let G = groups γ (s1 .memory) in
         let w = writing 2 now lock content in
         let u = unfreezing 1 now in
-        let zero-count : (k : ℕ) → k < dataBlocks γ g → count (s .memory) (groupOf γ k) ≤ 0 =
-        λ k h. omega (arith, f .counts (groupOf γ k) (groupOf-below σ g k h)) in
         let one : (k : ℕ) → k < dataBlocks γ g → counts (groupOf γ k) ≤ 1 =
-        λ k h. counts-few γ (count (s .memory)) o (groupOf γ k) 0 (zero-count 1 (omega arith)) (zero-count k h) in
+        then-few σ g lock first now old s f limits order t some-entries some-blocks old-size in
         let two = counts-few γ counts w (groupOf γ 1) 1 (one 2 (omega arith)) (one 1 (omega arith)) in
         let found : Entry = updated (Write lock) first (currentEntry γ s 1) in
         put-foreseen-by σ (wholeBox γ g) ν s1 s1 part now content counts entries foresees asked

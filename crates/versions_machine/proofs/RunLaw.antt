@@ -2,9 +2,8 @@
 use mathlib.Core.Path.{_≡_, refl, ap, sym, subst, _∙_}
 use mathlib.Core.Bool.{Bool, true, false}
 use mathlib.Core.List.{List, [], _∷_, _++_}
-use mathlib.Core.Option.{Option, some, none}
+use mathlib.Core.Option.{Option, some, Option·none-ne-some}
 use Prim.Native.Nat.{ℕ}
-use native.Mathlib.Omega.{arith}
 use lib.ListN.{length}
 use lib.Dec.{eqb}
 use Rattle.lockpage.specs.Geometry.{Geometry, Proper}
@@ -186,6 +185,11 @@ module _ {γ : Geometry} (σ : Proper γ) (ρ : Range) where
   throughout-front P x [] ds h = tt
   throughout-front P x (c ∷ cs) ds h = (h .0, throughout-front P (called γ ρ x c) cs ds (h .1))
 
+  pub throughout-append : (P : Site → Call → Type 0) (x : Site) (cs ds : List Call) → Throughout γ ρ P x cs → Throughout γ ρ P (calls γ ρ x cs) ds
+      → Throughout γ ρ P x (cs ++ ds)
+  throughout-append P x [] ds h k = k
+  throughout-append P x (c ∷ cs) ds h k = (h .0, throughout-append P (called γ ρ x c) cs ds (h .1) k)
+
   pub throughout-back : (P : Site → Call → Type 0) (x : Site) (cs ds : List Call) → Throughout γ ρ P x (cs ++ ds)
       → Throughout γ ρ P (calls γ ρ x cs) ds
   throughout-back P x [] ds h = h
@@ -207,11 +211,8 @@ module _ {γ : Geometry} (σ : Proper γ) (ρ : Range) where
   start-kept lock s =
       record {
         contents = λ p. lockedOf [] 0 0;
-        sound = record { holds = λ p b e. absurd (no-version b e); apart = λ p q b e f. absurd (no-version b e) };
+        sound = record { holds = λ p b e. absurd (Option·none-ne-some b e); apart = λ p q b e f. absurd (Option·none-ne-some b e) };
       }
-    where
-      no-version : (b : ℕ) → none ≡ some b → ⊥
-      no-version b e = let z : _≡_ {A = ℕ} 0 1 = cc in omega arith
 
   -- ---- what a read answers
 

@@ -3,7 +3,7 @@
 use mathlib.Core.Path.{_≡_, refl, ap, sym, subst, _∙_}
 use mathlib.Core.Bool.{Bool, true, false}
 use mathlib.Core.List.{List, [], _++_}
-use mathlib.Core.Option.{Option, some, none}
+use mathlib.Core.Option.{Option, some, none, Option·some-injective}
 use Prim.Native.Nat.{ℕ}
 use borrow.Author.Tests.{eq-eqb, ne-eqb}
 use lib.Dec.{eqb}
@@ -39,9 +39,6 @@ newest-own newest part block = rw (replacedBy, eq-eqb part part refl)
 pub newest-other : (newest : ℕ → Option ℕ) (part block k : ℕ) → (k ≡ part → ⊥) → replacedBy newest part block k ≡ newest k
 unfolding replacedBy
 newest-other newest part block k n = rw (replacedBy, ne-eqb k part n)
-
-same-some : (o : Option ℕ) (a b : ℕ) → o ≡ some a → o ≡ some b → a ≡ b
-same-some o a b p q = cc
 
 -- a plan, or none
 abbrev pub chosen : Plan → Versions → Bool → Plan
@@ -122,7 +119,7 @@ module _ {γ : Geometry} (σ : Proper γ) where
       → Sound (replacedBy newest part block) (withContent contents part content) s
   replaced newest contents part block content s version others fresh apart =
       let own : (p b : ℕ) → p ≡ part → replacedBy newest part block p ≡ some b → b ≡ block =
-      λ p b e n. same-some (replacedBy newest part block p) b block n (ap (replacedBy newest part block) e ∙ newest-own newest part block) in
+      λ p b e n. Option·some-injective b block (sym n ∙ ap (replacedBy newest part block) e ∙ newest-own newest part block) in
       let old : (p b : ℕ) → (p ≡ part → ⊥) → replacedBy newest part block p ≡ some b → newest p ≡ some b =
       λ p b d n. sym (newest-other newest part block p d) ∙ n in
       record {

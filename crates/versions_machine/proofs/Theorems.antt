@@ -1,17 +1,19 @@
 -- The claims of specs/ hold. Assumes nothing.
-use mathlib.Core.Path.{ap, sym, subst, _∙_}
+use mathlib.Core.Path.{refl, ap, sym, subst, _∙_}
 use mathlib.Core.List.{List, [], _∷_, _++_}
 use Prim.Native.Nat.{ℕ}
 use Rattle.lockpage.specs.Geometry.{Geometry, Proper}
-use Rattle.versions_machine.specs.Versions.{Range}
+use Rattle.versions_machine.specs.Versions.{Range, start}
+use Rattle.versions_machine.proofs.NewestLaw.{known-is-put}
 use Rattle.versions_machine.specs.Run.{Call, PutPart, Site, startSite, called, calls, Throughout}
-use Rattle.versions_machine.specs.Claims.{ReadsBack, StoreAlone, NotPutAgain, Newest, NewestReadsBack, NewestIsKnown, PutPassesIfAllYes}
+use Rattle.versions_machine.specs.Claims.{ReadsBack, StoreAlone, NotPutAgain, Newest, NewestReadsBack, NewestIsKnown, KnownIsNewest, PutPassesIfAllYes}
 use Rattle.versions_machine.specs.Claims.{FlushPassesIfAllYes, PutIsForeseen, RefusalAltersNothing, FirstPutIsAccepted, ReplacingPutIsAccepted}
 use Rattle.versions_machine.specs.Claims.{FirstFlushIsAccepted, FullPutIsAccepted}
 use Rattle.versions_machine.specs.After.{AcceptedPutDoes, AcceptedFlushDoes}
-use Rattle.versions_machine.specs.History.{LogIsWhole}
+use Rattle.versions_machine.specs.History.{LogIsWhole, ReserveStaysFree}
 use Rattle.versions_machine.specs.Locks.{AcceptedPutLocks, AcceptedFlushLocks}
 use Rattle.versions_machine.proofs.HistoryLaw.{log-tells}
+use Rattle.versions_machine.proofs.ReserveLaw.{calls-reserve}
 use Rattle.versions_machine.proofs.DoesLaw.{put-does, flush-does}
 use Rattle.versions_machine.proofs.LocksLaw.{put-locks, flush-locks}
 use Rattle.versions_machine.proofs.CarryLaw.{put-unaltered, flush-unaltered}
@@ -64,6 +66,10 @@ module _ {γ : Geometry} (σ : Proper γ) (ρ : Range) where
   newest-is-known lock s cs part b content q n =
       tracked (startSite γ ρ lock s) cs part b content (start-kept σ ρ lock s) q n .known
 
+  pub known-is-newest : KnownIsNewest γ ρ
+  unfolding KnownIsNewest start
+  known-is-newest lock s cs part b = known-is-put σ ρ part (startSite γ ρ lock s) cs b refl
+
   pub put-passes-if-all-yes : PutPassesIfAllYes γ ρ
   unfolding PutPassesIfAllYes
   put-passes-if-all-yes = put-passes σ ρ
@@ -105,3 +111,7 @@ module _ {γ : Geometry} (σ : Proper γ) (ρ : Range) where
   pub log-is-whole : LogIsWhole γ ρ
   unfolding LogIsWhole
   log-is-whole = log-tells σ ρ
+
+  pub reserve-stays-free : ReserveStaysFree γ ρ
+  unfolding ReserveStaysFree
+  reserve-stays-free = calls-reserve σ ρ

@@ -19,8 +19,8 @@ unfoldable pub blocksFrom : ℕ → ℕ → List ℕ
 blocksFrom a zero = []
 blocksFrom a (suc n) = a ∷ blocksFrom (a + 1) n
 
--- those of some blocks that pass a test, in order
-unfoldable pub those : (ℕ → Bool) → List ℕ → List ℕ
+-- those of a list that pass a test, in order
+unfoldable pub those : {A : Type 0} → (A → Bool) → List A → List A
 those test [] = []
 those test (a ∷ rest) = elim (test a) [ true ↦ a ∷ those test rest | false ↦ those test rest ]
 

@@ -107,6 +107,11 @@ module _ (γ : Geometry) (ρ : Range) where
       → Throughout γ ρ StoreAlone (startSite γ ρ lock s) cs → Newest (startSite γ ρ lock s) cs part b content
       → calls γ ρ (startSite γ ρ lock s) cs .versions .newest part ≡ some b
 
+  -- and no other: a block that the map has was answered by the part's last accepted put
+  unfoldable pub KnownIsNewest : Type 0
+  KnownIsNewest = (lock : ℕ) (s : Box) (cs : List Call) (part b : ℕ) → calls γ ρ (startSite γ ρ lock s) cs .versions .newest part ≡ some b
+      → (content : List ℕ) × Newest (startSite γ ρ lock s) cs part b content
+
   -- ---- which calls are accepted
 
   unfoldable pub PutPassesIfAllYes : Type 0

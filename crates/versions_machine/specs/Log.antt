@@ -1,13 +1,14 @@
--- A log block's bytes, after document 02, Q-3. Assumes nothing: these are definitions.
+-- A log block's bytes, after document 02, Q-3: written, and read back for Q-6. Assumes nothing: these are definitions.
 use mathlib.Core.Bool.{Bool, _&&_}
 use mathlib.Core.List.{List, [], _∷_, _++_}
 use Prim.Native.Nat.{ℕ, _+_, _-_, _*_}
 use lib.ListN.{length}
 use lib.Dec.{eqb, ltb}
 use Rattle.octets.specs.Part.{repeated}
-use Rattle.octets.specs.Number.{bytes}
+use Rattle.octets.specs.Number.{bytes, numberAt}
 use Rattle.lockpage.specs.Geometry.{Geometry}
-use Rattle.versions_machine.specs.Versions.{Record, Versions, isLock}
+use Rattle.machine.specs.Query.{listed}
+use Rattle.versions_machine.specs.Versions.{Record, recordOf, Versions, isLock}
 
 -- "part number, block, 4 bytes each"
 abbrev pub recordField : ℕ
@@ -22,6 +23,10 @@ recordBytes x = bytes recordField (x .part) ++ bytes recordField (x .block)
 unfoldable pub recordsBytes : List Record → List ℕ
 recordsBytes [] = []
 recordsBytes (x ∷ xs) = recordBytes x ++ recordsBytes xs
+
+-- the record whose bytes stand from a place on
+abbrev pub recordAt : List ℕ → ℕ → Record
+recordAt l at = recordOf (numberAt l at recordField) (numberAt l (at + recordField) recordField)
 
 -- "an 8-byte pointer"
 abbrev pub pointerSize : ℕ
@@ -40,6 +45,13 @@ module _ (γ : Geometry) where
   unfoldable pub logBlock : List Record → ℕ → List ℕ
   logBlock xs pointer =
       recordsBytes xs ++ (repeated (recordSize * (recordsPerBlock - length xs)) unused ++ bytes pointerSize pointer)
+
+  -- the records of a log block's bytes, and its pointer: any block's bytes have some
+  unfoldable pub recordsRead : List ℕ → List Record
+  recordsRead l = listed (λ i. recordAt l (recordSize * i)) 0 recordsPerBlock
+
+  unfoldable pub pointerRead : List ℕ → ℕ
+  pointerRead l = numberAt l (recordSize * recordsPerBlock) pointerSize
 
   -- "stored .. when full"
   unfoldable pub isFull : Versions → Bool

@@ -13,6 +13,7 @@ use Rattle.memory.specs.Memory.{groups}
 use Rattle.machine.specs.Command.{Box}
 use Rattle.versions_machine.specs.Versions.{Range}
 use Rattle.versions_machine.specs.Allocation.{blocksFrom, those, goingRound, firstThat, isAvailable, wholeBox, nextAvailable, twoAvailable}
+use Rattle.versions_machine.proofs.AllocationLaw.{those-append}
 use Rattle.versions_search.specs.Ready.{Behind}
 use Rattle.versions_search.proofs.IntervalLaw.{passing, Hit, Miss, hit, miss}
 
@@ -28,17 +29,6 @@ blocks-split a zero n b p e f =
 blocks-split a (suc m) n b p e f =
     let more : p ≡ suc (m + n) = omega arith in
     ap (blocksFrom a) more ∙ ap (λ (x : List ℕ). a ∷ x) (blocks-split (a + 1) m n b (m + n) (omega arith) refl)
-
-those-append : (test : ℕ → Bool) (l m : List ℕ) → those test (l ++ m) ≡ those test l ++ those test m
-unfolding those
-those-append test [] m = refl
-those-append test (a ∷ l) m = go (those-append test l m) (test a)
-  where
-    go : those test (l ++ m) ≡ those test l ++ those test m → (b : Bool)
-        → elim b [ true ↦ a ∷ those test (l ++ m) | false ↦ those test (l ++ m) ]
-        ≡ elim b [ true ↦ a ∷ those test l | false ↦ those test l ] ++ those test m
-    go e true = ap (λ (x : List ℕ). a ∷ x) e
-    go e false = e
 
 first-append : (test : ℕ → Bool) (l m : List ℕ) (other : ℕ) → firstThat test (l ++ m) other ≡ firstThat test l (firstThat test m other)
 unfolding firstThat

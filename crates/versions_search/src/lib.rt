@@ -58,7 +58,7 @@ fn next_in(memory: &[u8], disk: &[u8], time: u32, reserve: u32, from: u32, end: 
 }
 
 // The number of the box's blocks.
-fn end_of(memory: &[u8]) -> u32
+pub fn end_of(memory: &[u8]) -> u32
     requires { ⌜ valid present (now memory) ≡ true ⌝ }
     ensures { λ r. ⌜ r ≡ dataBlocks present (groups present (now (memory .entry))) ⌝ }
 {

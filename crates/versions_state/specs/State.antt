@@ -10,8 +10,8 @@ use Rattle.octets.specs.Part.{part, repeated, equal}
 use Rattle.octets.specs.Number.{bytes, numberAt}
 use Rattle.lockpage.specs.Geometry.{Geometry}
 use Rattle.addressing.specs.Map.{dataBlocks}
-use Rattle.versions_machine.specs.Versions.{noBlock, blockNumber, blockNamed, Record, recordOf, Versions, versionsOf}
-use Rattle.versions_machine.specs.Log.{recordField, recordSize, recordsBytes, unused, isSound}
+use Rattle.versions_machine.specs.Versions.{noBlock, blockNumber, blockNamed, Record, Versions, versionsOf}
+use Rattle.versions_machine.specs.Log.{recordSize, recordAt, recordsBytes, unused, isSound}
 use Rattle.versions_machine.specs.Allocation.{blocksFrom}
 use Rattle.versions_machine.specs.Call.{lastPart}
 use Rattle.versions_state.specs.Layout.{fieldSize, lockStart, reserveStart, takenStart, recordCountStart, newestStart, parts}
@@ -49,7 +49,7 @@ unfoldable pub newestIn : List ℕ → ℕ → Option ℕ
 newestIn state part = elim (leb part lastPart) [ true ↦ blockNamed (newestNumber state part) | false ↦ none ]
 
 unfoldable pub recordIn : List ℕ → ℕ → Record
-recordIn state i = recordOf (numberAt state (recordStart i) recordField) (numberAt state (recordStart i + recordField) recordField)
+recordIn state i = recordAt state (recordStart i)
 
 -- so many records, from one on
 unfoldable pub recordsIn : List ℕ → ℕ → ℕ → List Record

@@ -2,7 +2,7 @@
 ghost use mathlib.Core.Path.{_≡_};
 ghost use Rattle.versions_state.specs.Layout.{newestStart, recordStart};
 
-const FIELD_SIZE: usize = 4;
+pub const FIELD_SIZE: usize = 4;
 
 pub const LOCK_START: usize = 0;
 
@@ -16,15 +16,23 @@ pub const NEWESTS_START: usize = RECORD_COUNT_START + FIELD_SIZE;
 
 pub const PARTS: u32 = versions_machine::LAST_PART + 1;
 
-pub const RECORDS_START: usize = NEWESTS_START + FIELD_SIZE * PARTS as usize;
+// The block numbers of all parts.
+pub const NEWESTS_SIZE: usize = FIELD_SIZE * PARTS as usize;
+
+pub const RECORDS_START: usize = NEWESTS_START + NEWESTS_SIZE;
 
 // Of a record: its part, and then its block.
 pub const RECORD_FIELD: usize = 4;
 
 pub const RECORD_SIZE: usize = RECORD_FIELD + RECORD_FIELD;
 
-// One less than a log block has, which has one less than a page has entries.
-pub const MOST_RECORDS: u32 = lockpage::ENTRIES_PER_PAGE as u32 - 2;
+// Of a log block: one less than a page has entries. Its pointer stands behind them.
+pub const RECORDS_PER_BLOCK: u32 = lockpage::ENTRIES_PER_PAGE as u32 - 1;
+
+pub const POINTER_START: usize = RECORD_SIZE * RECORDS_PER_BLOCK as usize;
+
+// One less than a log block has.
+pub const MOST_RECORDS: u32 = RECORDS_PER_BLOCK - 1;
 
 pub const RECORDS_SIZE: usize = RECORD_SIZE * MOST_RECORDS as usize;
 
