@@ -1,0 +1,1 @@
+// Recovery as definitions, specs/, and theorems about them, proofs/: no code.
