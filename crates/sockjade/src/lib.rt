@@ -1,6 +1,6 @@
 // The functions that a C service calls. A slice crosses as a pointer and a length. No call has a precondition, and each
 // contract fixes the number answered and every byte of each buffer: the digest's by specs/, the version
-// store's by the definitions of versions_bytes, the others by those of machine.
+// store's by the definitions of versions_bytes, recovery's by those of recovery_machine, the others by those of machine.
 ghost use mathlib.Core.Path.{_≡_};
 ghost use Rattle.lockpage.specs.Geometry.{present};
 ghost use Rattle.machine.specs.Step.{step};
@@ -10,6 +10,7 @@ ghost use Rattle.machine.specs.Call.{boxAt, commandAt, outcomeAt, formatOutcome
 ghost use Rattle.memory.specs.Memory.{groups};
 ghost use Rattle.versions_machine.specs.Allocation.{firstBlock, wholeBox};
 ghost use Rattle.versions_bytes.specs.Call.{locatedOf, calledAt, startedAt, startBytes, lookup, putBytes, flushBytes};
+ghost use Rattle.recovery_machine.specs.Recover.{recover, recoveryAt};
 ghost use Rattle.sockjade.specs.Digest.{digestOutcome, digestCall};
 
 const LONGEST_INPUT: usize = 65536;
@@ -133,6 +134,23 @@ pub extern "C" fn sockjade_versions_block(state: &[u8], part: u32) -> u64
 {
     let answered = versions::block(state, part);
     two_numbers(answered.number, answered.block)
+}
+
+// The parts that the log on the disk has by a point in time, as a box shows them at another: its number, with the result as document 02
+// has it; where the number is not 0, no byte changed.
+#[no_mangle]
+pub extern "C" fn sockjade_recover(
+    memory: &[u8],
+    disk: &[u8],
+    point: u32,
+    time: u32,
+    result: &mut [u8],
+) -> u32
+    ensures { λ r. ⌜ recoveryAt r (result .exit)
+        ≡ recover present (wholeBox present (groups present (now (memory .entry)))) (boxAt (memory .entry) (disk .entry)) point time
+        (now (result .entry)) ⌝ }
+{
+    recovery::recover(memory, disk, point, time, result)
 }
 
 // Formats a box: 0, with memory and disk as document 01 has it; where the number is not 0, no byte changed.
