@@ -68,6 +68,17 @@ extern "C" {
     ) -> u32;
 
     fn sockjade_versions_block(state: *const u8, state_len: usize, part: u32) -> u64;
+
+    fn sockjade_recover(
+        memory: *const u8,
+        memory_len: usize,
+        disk: *const u8,
+        disk_len: usize,
+        point: u32,
+        now: u32,
+        result: *mut u8,
+        result_len: usize,
+    ) -> u32;
 }
 
 /// The archive's digest: 0 and the digest in `out`, or 6 and `out` as it was.
@@ -198,6 +209,23 @@ pub fn versions_flush(state: &mut [u8], memory: &mut [u8], disk: &mut [u8], now:
 pub fn versions_block(state: &[u8], part: u32) -> u64 {
     // SAFETY: the function has no precondition beyond a valid slice.
     unsafe { sockjade_versions_block(state.as_ptr(), state.len(), part) }
+}
+
+/// The archive's recovery of each part's block as of a time: 0, or the number of the question that said no.
+pub fn recover(memory: &[u8], disk: &[u8], point: u32, now: u32, result: &mut [u8]) -> u32 {
+    // SAFETY: the function has no precondition beyond three valid slices that do not overlap.
+    unsafe {
+        sockjade_recover(
+            memory.as_ptr(),
+            memory.len(),
+            disk.as_ptr(),
+            disk.len(),
+            point,
+            now,
+            result.as_mut_ptr(),
+            result.len(),
+        )
+    }
 }
 
 /// How a second number, or the question that said no, is answered: the number in the low 32 bits, the

@@ -1,5 +1,5 @@
-//! The comparison of commands and lists, whose checks `bin/commands.rs` runs, in `versions` that of the version store, and
-//! in `script` that of scripts.
+//! The comparison of commands and lists, whose checks `bin/commands.rs` runs, in `versions` that of the version store, in
+//! `recovery` that of its recovery, and in `script` that of scripts.
 mod alone;
 pub mod call;
 pub mod edges;
@@ -11,6 +11,7 @@ pub mod lists;
 pub mod order;
 pub mod pages;
 pub mod pair;
+pub mod recovery;
 pub mod room;
 pub mod runs;
 pub mod script;

@@ -11,7 +11,7 @@ mod tests;
 
 use crate::blake3;
 use entry::{Entry, Update};
-pub use free::{ask_call, is_free};
+pub use free::{ask_call, is_free, Blocks};
 use memory::{Memory, Page, LAST_COUNT, LATEST, MOST_UPDATES, PAGE_SIZE};
 pub use states::states;
 use std::ops::Range;

@@ -1,20 +1,23 @@
-//! How fast the archive is, next to other implementations: its digest, its commands, its lists and its
-//! version store; the script program; and two forms of the address map. The words `digest`, `commands`,
-//! `lists`, `versions`, `script` and `map` run one part. Nothing here passes or fails.
+//! How fast the archive is, next to other implementations: its digest, its commands, its lists, its
+//! version store and its recovery; the script program; and two forms of the address map. The words
+//! `digest`, `commands`, `lists`, `versions`, `recovery`, `script` and `map` run one part. Nothing here
+//! passes or fails.
 mod commands;
 mod digest;
 mod lists;
 mod map;
 #[cfg(official)]
 mod official;
+mod recovery;
 mod script;
 mod versions;
 
-const PARTS: [(&str, fn()); 6] = [
+const PARTS: [(&str, fn()); 7] = [
     ("digest", digest::run),
     ("commands", commands::run),
     ("lists", lists::run),
     ("versions", versions::run),
+    ("recovery", recovery::run),
     ("script", script::run),
     ("map", map::run),
 ];

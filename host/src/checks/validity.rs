@@ -6,7 +6,7 @@ use super::situation::{situation, Questions, NOW};
 use super::Checked;
 
 /// A place of the memory, how many bytes are put there, the number, and whether it stays valid.
-type Change = (usize, usize, u32, bool);
+pub type Change = (usize, usize, u32, bool);
 
 const TIMES: [Change; 5] =
     [(96, 4, 0, true), (96, 4, NOW, true), (96, 4, LATEST, true), (96, 4, LATEST + 1, false), (96, 4, u32::MAX, false)];
@@ -31,26 +31,35 @@ const COUNTS: [Change; 4] = [(32, 4, 0, true), (32, 4, u32::MAX, true), (36, 4, 
 pub fn check(pair: &mut Pair) -> Checked {
     let start = pair.index;
     for held in [255, 1] {
-        for change in TIMES.into_iter().chain(GROUPS) {
-            one(pair, held, change)?;
-        }
+        changes(held).into_iter().try_for_each(|change| one(pair, held, change))?;
         (0..=255).try_for_each(|number| counted(pair, held, number))?;
-        for at in 40..96 {
-            one(pair, held, (at, 1, 1, false))?;
-            one(pair, held, (at, 1, 128, false))?;
-        }
-        for at in 104..616 {
-            one(pair, held, (at, 1, 1, held == 1))?;
-            one(pair, held, (at, 1, 128, held == 1))?;
-        }
-        for at in 0..32 {
-            one(pair, held, (at, 1, 200, true))?;
-        }
     }
-    HELD.into_iter().try_for_each(|change| one(pair, 1, change))?;
-    COUNTS.into_iter().try_for_each(|change| one(pair, 255, change))?;
-    numbers_of_groups(pair)?;
+    numbers_of_groups(|memory, disk, valid| sent(pair, memory, disk, valid))?;
     Ok(format!("validity: {} calls", pair.index - start))
+}
+
+/// With G 2 and group 1 held, or none: the changes to each clause but Q-4's.
+pub fn changes(held: u8) -> Vec<Change> {
+    let of_held = if held == 1 { HELD.as_slice() } else { COUNTS.as_slice() };
+    let mut list = [TIMES.as_slice(), GROUPS.as_slice(), of_held].concat();
+    list.extend((40..96).flat_map(|at| [(at, 1, 1, false), (at, 1, 128, false)]));
+    list.extend((104..616).flat_map(|at| [(at, 1, 1, held == 1), (at, 1, 128, held == 1)]));
+    list.extend((0..32).map(|at| (at, 1, 200, true)));
+    list
+}
+
+/// Document 02's Q-4: byte 102 is 1 to 63 with a page held and 0 with none, and byte 103 is 0. A box whose page is held from before
+/// Q-4 has 0 in both.
+pub fn counts(held: u8, number: u8) -> [Change; 2] {
+    let valid = if held == 255 { number == 0 } else { (1..=63).contains(&number) };
+    [(102, 1, number as u32, valid), (103, 1, number as u32, number == 0)]
+}
+
+pub fn put_change(memory: &mut [u8], (at, size, number, _): Change) {
+    match size {
+        1 => memory[at] = number as u8,
+        _ => put_number(memory, at, number),
+    }
 }
 
 /// The memory takes the change. Where it stays valid it gets a sync, a restart and an identify;
@@ -66,26 +75,21 @@ fn one(pair: &mut Pair, held: u8, change: Change) -> Result<(), String> {
     sent_each(pair, held, change, kinds)
 }
 
-/// Document 02's Q-4: byte 102 is 1 to 63 with a page held and 0 with none, and byte 103 is 0. A box whose page is held from before
-/// Q-4 has 0 in both. About the limits every kind is sent, and else one of them and an update. An archive without one half of the
+/// About the limits of Q-4's bytes every kind is sent, and else one of them and an update. An archive without one half of the
 /// clause, or with another limit, is found here.
 fn counted(pair: &mut Pair, held: u8, number: u8) -> Result<(), String> {
     let kinds: Vec<u32> = match UPDATES.contains(&number) {
         true => (1..=10).collect(),
         false => vec![1 + number as u32 % 10, 4 + number as u32 % 3],
     };
-    let valid = if held == 255 { number == 0 } else { (1..=63).contains(&number) };
-    sent_each(pair, held, (102, 1, number as u32, valid), kinds.clone())?;
-    sent_each(pair, held, (103, 1, number as u32, number == 0), kinds)
+    counts(held, number).into_iter().try_for_each(|change| sent_each(pair, held, change, kinds.clone()))
 }
 
-fn sent_each(pair: &mut Pair, held: u8, (at, size, number, valid): Change, kinds: Vec<u32>) -> Result<(), String> {
+fn sent_each(pair: &mut Pair, held: u8, change: Change, kinds: Vec<u32>) -> Result<(), String> {
+    let (_, _, _, valid) = change;
     for kind in kinds {
         let mut made = situation(kind, held, Questions::NONE, 0);
-        match size {
-            1 => made.memory[at] = number as u8,
-            _ => put_number(&mut made.memory, at, number),
-        }
+        put_change(&mut made.memory, change);
         made.call.now = if valid { LATEST } else { NOW };
         pair.load(&made.memory, &made.disk);
         pair.expect(&made.call, if valid { 0 } else { 1 })?;
@@ -97,20 +101,20 @@ fn sent_each(pair: &mut Pair, held: u8, (at, size, number, valid): Change, kinds
 
 /// Each number of groups with the disk of its length: 1 to 16 are valid. The counts from G on are to
 /// be 0; the held group is to be below G.
-fn numbers_of_groups(pair: &mut Pair) -> Result<(), String> {
+pub fn numbers_of_groups(mut send: impl FnMut(&[u8], &[u8], bool) -> Result<(), String>) -> Result<(), String> {
     for groups in 0..=18u8 {
         let mut memory = vec![0; 616];
         memory[100] = groups;
         memory[101] = 255;
         let disk = vec![0; groups as usize * 33_280];
         let valid = (1..=16).contains(&groups);
-        sent(pair, &memory, &disk, valid)?;
+        send(&memory, &disk, valid)?;
         if !valid {
             continue;
         }
         for at in (32 + 4 * groups as usize..96).step_by(3) {
             memory[at] = 1;
-            sent(pair, &memory, &disk, false)?;
+            send(&memory, &disk, false)?;
             memory[at] = 0;
         }
         // The groups of the box have a count that fits a held one.
@@ -118,7 +122,7 @@ fn numbers_of_groups(pair: &mut Pair) -> Result<(), String> {
         memory[102] = 1;
         for held in [0, groups - 1, groups, groups + 1, 16, 17, 254] {
             memory[101] = held;
-            sent(pair, &memory, &disk, held < groups)?;
+            send(&memory, &disk, held < groups)?;
         }
     }
     Ok(())

@@ -11,7 +11,7 @@ pub mod runs;
 pub mod search;
 pub mod seen;
 mod situations;
-mod snapshot;
+pub mod snapshot;
 pub mod stack;
 pub mod stores;
 

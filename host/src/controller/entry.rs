@@ -47,6 +47,10 @@ impl Entry {
         (self.word as u64 | (self.stamp as u64) << 32).to_le_bytes()
     }
 
+    pub fn time_of_write(self) -> u32 {
+        self.stamp / 2
+    }
+
     fn frozen(self) -> bool {
         self.stamp & 1 == 0
     }

@@ -6,32 +6,32 @@ use crate::archive::{versions_block, versions_flush, versions_put, versions_star
 const F4_01: [u8; 4] = [0xF4, 0x01, 0, 0];
 
 /// A box and the state of a store with a lock of 500.
-struct Store {
-    a: Archive,
+pub struct Store {
+    pub a: Archive,
     state: [u8; 1536],
 }
 
 impl Store {
-    fn started(groups: u32) -> Result<Store, String> {
+    pub fn started(groups: u32) -> Result<Store, String> {
         let mut made = Store { a: Archive::formatted(groups)?, state: [0xAA; 1536] };
         answers("start", versions_start(&mut made.state, 500) as u64, 0)?;
         Ok(made)
     }
 
     /// A version of 512 times this byte is put into this block.
-    fn puts(&mut self, part: u32, now: u32, byte: u8, block: u64) -> Result<(), String> {
+    pub fn puts(&mut self, part: u32, now: u32, byte: u8, block: u64) -> Result<(), String> {
         let Archive { memory, disk, .. } = &mut self.a;
         let got = versions_put(&mut self.state, memory, disk, part, now, &[byte; 512]);
         answers(&format!("the put of part {part} at {now}"), got, block << 32)
     }
 
-    fn flushes(&mut self, now: u32) -> Result<(), String> {
+    pub fn flushes(&mut self, now: u32) -> Result<(), String> {
         let Archive { memory, disk, .. } = &mut self.a;
         answers("flush", versions_flush(&mut self.state, memory, disk, now) as u64, 0)
     }
 
     /// Kind 1 answers these bytes.
-    fn reads(&mut self, what: &str, block: u32, now: u32, bytes: &[u8]) -> Result<(), String> {
+    pub fn reads(&mut self, what: &str, block: u32, now: u32, bytes: &[u8]) -> Result<(), String> {
         self.a.gets(1, block, now, 0, 0)?;
         same(what, &self.a.answer[..512], bytes)
     }
@@ -46,7 +46,7 @@ pub fn check() -> Checked {
     Ok("versions by hand".into())
 }
 
-fn answers(what: &str, got: u64, right: u64) -> Result<(), String> {
+pub fn answers(what: &str, got: u64, right: u64) -> Result<(), String> {
     if got == right {
         return Ok(());
     }

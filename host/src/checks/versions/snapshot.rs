@@ -3,6 +3,7 @@
 use super::super::call::{last_time, number, page, put_number};
 use super::{LAST_AT, LOCK_AT, NEWEST_AT, NONE, PENDING_AT, RESERVE_AT};
 
+#[derive(Clone)]
 pub struct Snapshot {
     pub state: Vec<u8>,
     pub memory: Vec<u8>,
