@@ -48,7 +48,8 @@ enum {
     SOCKJADE_KIND_UNKNOWN = 3,         /* the kind is not 1 to 10 */
     SOCKJADE_TIME_OUT_OF_RANGE = 4,    /* now is before the last time, or above 2,147,483,647 */
     SOCKJADE_ADDRESS_OUT_OF_RANGE = 5, /* no such data block, alone or in a list; for a page, no such group */
-    SOCKJADE_LENGTH_WRONG = 6,         /* data, proof or answer is not of the kind's or the list's length; when formatting, the salt */
+    SOCKJADE_LENGTH_WRONG = 6,         /* data, proof or answer is not of the kind's or the list's length; when formatting, the salt; of a
+                                        * recovery, the result */
     SOCKJADE_TAG_WRONG = 7,            /* the tag is not that of the page brought, under the present salt and count */
     SOCKJADE_COUNT_EXHAUSTED = 8,      /* the group's count is exhausted, until a new salt */
     SOCKJADE_STATE_WRONG = 9,          /* write: not free; unfreeze: not frozen; increment: free */
@@ -100,10 +101,11 @@ enum {
     SOCKJADE_BLOCKS_PER_GROUP = 64,
     SOCKJADE_VERSIONS_SIZE = 1536,     /* of a version store's state */
     SOCKJADE_LAST_PART = 255,          /* parts are numbered from 0 */
-    SOCKJADE_LOG_RECORDS = 63          /* in a log block: part and block, 4 bytes each; then the number of the next log block, 8 bytes */
+    SOCKJADE_LOG_RECORDS = 63,         /* in a log block: part and block, 4 bytes each; then the number of the next log block, 8 bytes */
+    SOCKJADE_RECOVERED_SIZE = 1024     /* of a recovery's result: a block number of 4 bytes for each part */
 };
 
-/* The block of a part that has no version. */
+/* The block of a part that has no version, or for which a recovery finds none. */
 #define SOCKJADE_NO_BLOCK 4294967295u
 
 /* The two numbers of a result of 64 bits: the number answered, in the low half, and the second one, in the high half, which is 0
@@ -159,6 +161,19 @@ uint32_t sockjade_versions_flush(uint8_t *state, size_t state_len, uint8_t *memo
 /* The block of a part's newest version. The number is SOCKJADE_ACCEPTED, or 13 or 1, asked in this order; the second is the block, or
  * SOCKJADE_NO_BLOCK where the part has no version. */
 uint64_t sockjade_versions_block(const uint8_t *state, size_t state_len, uint32_t part);
+
+/* Recovers the block of each part as of the time `point` from the log on the disk, without the version store's state: after an intrusion,
+ * say. The result is SOCKJADE_RECOVERED_SIZE bytes, a block number for each part, or SOCKJADE_NO_BLOCK. The walk over the log begins at
+ * block 0 and follows the log blocks' pointers, up to a block that is free at `now`, out of range, written after `point`, written before
+ * the block that points to it, or walked already. For each part the last record on this way counts whose block is in range, not free at
+ * `now` and not written after `point`. Memory and disk are only read, and the last time stays. Answers SOCKJADE_ACCEPTED, or 1, 2, 4 or 6,
+ * asked in this order.
+ *
+ * Where a store, started once, alone used the box from its formatting to `point` with no restart, had flushed all records and synced at
+ * `point`, and every later command is timed after `point`: at each time before `point` plus the store's lock the result is what
+ * sockjade_versions_block answered at `point`, whatever the later commands were, and each block named reads as it was put. */
+uint32_t sockjade_recover(const uint8_t *memory, size_t memory_len, const uint8_t *disk, size_t disk_len, uint32_t point, uint32_t now,
+                          uint8_t *result, size_t result_len);
 
 /* Formats a box of `groups` groups: fills the memory, and makes every data block free by storing each group's blank page.
  * It touches no data block. Answers SOCKJADE_ACCEPTED, or 1, 2 or 6. */

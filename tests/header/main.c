@@ -14,6 +14,7 @@ int main(void) {
     test_numbers();
     test_states();
     test_versions();
+    test_recovery();
     printf("header: %u comparisons, %u failed\n", checks_made(), checks_failed());
     return checks_failed() > 0;
 }

@@ -25,6 +25,10 @@ uint32_t sockjade_versions_flush(uint8_t *state, size_t state_len, uint8_t *memo
 /* "the newest version of every part reads back, at the block answered" */
 uint64_t sockjade_versions_block(const uint8_t *state, size_t state_len, uint32_t part);
 
+/* Document 02, Q-6: "the office names a time X"; "The result is 256 block numbers of 4 bytes"; "only the result is altered" */
+uint32_t sockjade_recover(const uint8_t *memory, size_t memory_len, const uint8_t *disk, size_t disk_len, uint32_t point, uint32_t now,
+                          uint8_t *result, size_t result_len);
+
 /* "Formatting takes G and a salt" */
 uint32_t sockjade_format(uint8_t *memory, size_t memory_len, uint8_t *disk, size_t disk_len, uint32_t groups,
                          const uint8_t *salt, size_t salt_len);

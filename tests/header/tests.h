@@ -9,6 +9,7 @@ void test_updates(void);
 void test_numbers(void);
 void test_states(void);
 void test_versions(void);
+void test_recovery(void);
 
 /* Of test_versions, in versions_refused.c. */
 void test_put_refused(void);
