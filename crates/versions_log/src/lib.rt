@@ -16,7 +16,7 @@ pub fn fill_log(state: &[u8], pointer: u32, out: &mut [u8])
     let last = layout::RECORDS_SIZE;
     octets::copy(state, layout::RECORDS_START, out, 0, last);
     octets::fill(out, last, layout::RECORD_SIZE, layout::UNUSED);
-    octets::store_u64(out, last + layout::RECORD_SIZE, pointer as u64);
+    octets::store_u64(out, layout::POINTER_START, pointer as u64);
 }
 
 // The same, where one record more fills it.
@@ -28,5 +28,5 @@ pub fn fill_full_log(state: &[u8], part: u32, block: u32, pointer: u32, out: &mu
     octets::copy(state, layout::RECORDS_START, out, 0, last);
     octets::store_u32(out, last, part);
     octets::store_u32(out, last + layout::RECORD_FIELD, block);
-    octets::store_u64(out, last + layout::RECORD_SIZE, pointer as u64);
+    octets::store_u64(out, layout::POINTER_START, pointer as u64);
 }

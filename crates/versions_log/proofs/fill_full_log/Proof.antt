@@ -28,5 +28,4 @@ returns c =
 pub fill-full-log-spec : {M : Type 1} → statement M
 fill-full-log-spec =
     tie.close
-    (tie.spec copy-requires (λ c κs. search needs) (λ c. search needs) (λ c κs. search needs) (λ c. search needs) (λ c κs. search needs)
-    (λ c. search needs) returns)
+    (tie.spec copy-requires (λ c κs. search needs) (λ c. search needs) (λ c κs. search needs) (λ c κs. search needs) (λ c. search needs) returns)

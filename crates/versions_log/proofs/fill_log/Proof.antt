@@ -26,5 +26,4 @@ returns c =
 
 pub fill-log-spec : {M : Type 1} → statement M
 fill-log-spec =
-    tie.close
-    (tie.spec copy-requires (λ c κs. search needs) (λ c. search needs) (λ c κs. search needs) (λ c. search needs) returns)
+    tie.close (tie.spec copy-requires (λ c κs. search needs) (λ c κs. search needs) (λ c. search needs) returns)
