@@ -3,7 +3,7 @@ use mathlib.Core.Path.{_≡_, refl, ap, ap₂, sym, subst, _∙_}
 use mathlib.Core.Bool.{Bool, true, false, _&&_, false≢true}
 use mathlib.Mathlib.Data.Bool.Basic.{and-elim-left, and-elim-right}
 use mathlib.Core.List.{List, [], _∷_}
-use Prim.Native.Nat.{ℕ, _+_, _*_, _≤_, _<_}
+use Prim.Native.Nat.{ℕ, _+_, _≤_, _<_}
 use native.Mathlib.Omega.{arith}
 use borrow.Author.Count.{below-more}
 use borrow.Author.Tests.{eqb-true, eqb-false, eq-eqb}
@@ -12,10 +12,8 @@ use lib.Bits.{bitOr, bitXor, or-add-and, xor-add-and, and-le-l, and-le-r, xor-se
 use lib.ListN.{length, getD}
 use lib.Seq.{ext-getD}
 use Rattle.octets.specs.Part.{part, repeated, equal}
-use Rattle.octets.specs.Number.{number, numberAt}
-use Rattle.octets.proofs.PartLaw.{part-length, part-at, part-part}
+use Rattle.octets.proofs.PartLaw.{part-length, part-at}
 use Rattle.octets.proofs.RepeatedLaw.{repeated-length, repeated-at}
-use Rattle.octets.proofs.NumberLaw.{number-of-four}
 
 pub equal-refl : (l : List ℕ) → equal l l ≡ true
 unfolding equal
@@ -40,6 +38,14 @@ equal-no a b n = go (equal a b) refl
     go : (t : Bool) → equal a b ≡ t → t ≡ false
     go true e = absurd (n (equal-true a b e))
     go false e = refl
+
+-- two comparisons of which either is a yes where the other is
+pub equal-iff : (a b c d : List ℕ) → (a ≡ b → c ≡ d) → (c ≡ d → a ≡ b) → equal a b ≡ equal c d
+equal-iff a b c d f g = go (equal a b) refl
+  where
+    go : (t : Bool) → equal a b ≡ t → t ≡ equal c d
+    go true e = sym (equal-yes c d (f (equal-true a b e)))
+    go false e = sym (equal-no c d (λ q. false≢true (sym e ∙ equal-yes a b (g q))))
 
 -- two numbers differ in no bit just where they are equal
 xor-none : (a b : ℕ) → bitXor a b ≡ 0 → a ≡ b
@@ -92,54 +98,3 @@ pub filled-end : (l : List ℕ) (at n b i d : ℕ) → at + n ≤ length l → n
 filled-end l at n b i d inside h c =
     let size = part-length l at n inside in
     compared-end (part l at n) (repeated n b) i d c (size ∙ sym (repeated-length n b)) (omega (arith, size))
-
--- four places more
-below-four : (P : ℕ → Type 0) (i : ℕ) → ((k : ℕ) → k < i → P k) → P i → P (i + 1) → P (i + 2) → P (i + 3) → (k : ℕ) → k < i + 4 → P k
-below-four P i all p0 p1 p2 p3 k h =
-    let two = below-more P (i + 1) (below-more P i all p0) p1 in
-    let three = below-more P (i + 2) (λ j u. two j (omega arith)) p2 in
-    below-more P (i + 3) (λ j u. three j (omega arith)) p3 k (omega arith)
-
--- a part with zeros, four bytes at a time
-words-more : (a : List ℕ) (n i d w : ℕ) → 4 * n ≤ length a → i < n → w ≡ numberAt a (4 * i) 4 → Compared a (repeated (4 * n) 0) (4 * i) d
-    → Compared a (repeated (4 * n) 0) (4 * (i + 1)) (bitOr d w)
-words-more a n i d w inside h e c =
-    let word = number-of-four a (4 * i) _ _ _ _ (omega arith) refl refl refl refl in
-    let z0 = repeated-at (4 * n) 0 (4 * i) (omega arith) in
-    let z1 = repeated-at (4 * n) 0 (4 * i + 1) (omega arith) in
-    let z2 = repeated-at (4 * n) 0 (4 * i + 2) (omega arith) in
-    let z3 = repeated-at (4 * n) 0 (4 * i + 3) (omega arith) in
-    record {
-      same =
-          λ t k u.
-          let none = or-none d w t in
-          let w0 = none .1 in
-          below-four (λ (j : ℕ). getD a j 0 ≡ getD (repeated (4 * n) 0) j 0) (4 * i) (c .same (none .0)) (omega (arith, e, word, w0, z0))
-          (omega (arith, e, word, w0, z1)) (omega (arith, e, word, w0, z2)) (omega (arith, e, word, w0, z3)) k (omega arith);
-      none =
-          λ all.
-          let d0 : d ≡ 0 = c .none (λ k u. all k (omega arith)) in
-          let w0 : w ≡ 0 =
-          omega (
-            arith,
-            e,
-            word,
-            z0,
-            z1,
-            z2,
-            z3,
-            all (4 * i) (omega arith),
-            all (4 * i + 1) (omega arith),
-            all (4 * i + 2) (omega arith),
-            all (4 * i + 3) (omega arith),
-          ) in
-          ap₂ bitOr d0 w0 ∙ or-zero-l 0;
-    }
-
-pub words-step : (l : List ℕ) (at n i d w : ℕ) → at + 4 * n ≤ length l → i < n → w ≡ numberAt l (at + 4 * i) 4
-    → Compared (part l at (4 * n)) (repeated (4 * n) 0) (4 * i) d
-    → Compared (part l at (4 * n)) (repeated (4 * n) 0) (4 * (i + 1)) (bitOr d w)
-unfolding numberAt
-words-step l at n i d w inside h e c =
-    words-more (part l at (4 * n)) n i d w (omega (arith, part-length l at (4 * n) inside)) h
-    (e ∙ ap number (sym (part-part l at (4 * n) (4 * i) 4 (omega arith)))) c

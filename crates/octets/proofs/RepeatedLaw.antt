@@ -1,11 +1,13 @@
--- Laws of an element repeated: its length, what stands where, what is left, its bound. Assumes nothing.
-use mathlib.Core.Path.{_≡_, refl, ap, sym, _∙_}
-use mathlib.Core.List.{List, _∷_}
+-- Laws of an element repeated: its length, what stands where, what is left, its bound, two such lists in a row, parts
+-- of another list that are one. Assumes nothing.
+use mathlib.Core.Path.{_≡_, refl, ap, ap₂, sym, _∙_}
+use mathlib.Core.List.{List, _∷_, _++_}
 use Prim.Native.Nat.{ℕ, zero, suc, _+_, _-_, _≤_, _<_}
 use native.Mathlib.Nat.{sub-zero, zero-sub, suc-sub-suc}
 use native.Mathlib.Omega.{arith}
-use lib.ListN.{length, take, drop, getD, replicate, length-replicate, getD-replicate}
+use lib.ListN.{length, take, drop, getD, replicate, length-replicate, getD-replicate, replicate-append-replicate}
 use Rattle.octets.specs.Part.{Below, part, repeated}
+use Rattle.octets.proofs.PartLaw.{part-part, part-add}
 use Rattle.octets.proofs.BelowLaw.{below-none, below-cons}
 
 pub repeated-below : (k n b : ℕ) → b < k → Below k (repeated n b)
@@ -37,3 +39,21 @@ repeated-take (suc n) b (suc k) h = ap (λ (l : List ℕ). b ∷ l) (repeated-ta
 pub repeated-part : (n b at k : ℕ) → at + k ≤ n → part (repeated n b) at k ≡ repeated k b
 unfolding part
 repeated-part n b at k h = ap (take k) (repeated-drop n b at) ∙ repeated-take (n - at) b k (omega arith)
+
+-- in two
+pub repeated-add : (j k b : ℕ) → repeated (j + k) b ≡ repeated j b ++ repeated k b
+unfolding repeated
+repeated-add j k b = sym (replicate-append-replicate j k b)
+
+-- of a part that is a byte repeated, a part is too
+pub repeated-within : (l : List ℕ) (a n f k b : ℕ) → f + k ≤ n → part l a n ≡ repeated n b → part l (a + f) k ≡ repeated k b
+repeated-within l a n f k b h e = sym (part-part l a n f k h) ∙ ap (λ (x : List ℕ). part x f k) e ∙ repeated-part n b f k h
+
+-- and two such parts are one, where the second starts in the first or right behind it
+pub repeated-joined : (l : List ℕ) (a n f k b : ℕ) → f ≤ n → part l a n ≡ repeated n b → part l (a + f) k ≡ repeated k b
+    → part l a (f + k) ≡ repeated (f + k) b
+repeated-joined l a n f k b h e g =
+    let here : a + 0 ≡ a = omega arith in
+    let front : part l a f ≡ repeated f b =
+    ap (λ (x : ℕ). part l x f) (sym here) ∙ repeated-within l a n 0 f b (omega arith) e in
+    part-add l a f k ∙ ap₂ (λ (x y : List ℕ). x ++ y) front g ∙ sym (repeated-add f k b)

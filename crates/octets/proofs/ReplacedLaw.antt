@@ -77,7 +77,7 @@ part-within l at new f n h k =
 -- ---- several stores
 
 -- the place where a list is put together
-replaced-front : (p x : List ℕ) (f : ℕ) (new : List ℕ) → replaced (p ++ x) (length p + f) new ≡ p ++ replaced x f new
+pub replaced-front : (p x : List ℕ) (f : ℕ) (new : List ℕ) → replaced (p ++ x) (length p + f) new ≡ p ++ replaced x f new
 unfolding replaced
 replaced-front p x f new =
     ap₂ (λ (u v : List ℕ). u ++ (new ++ v))
@@ -85,7 +85,7 @@ replaced-front p x f new =
     (ap (λ (n : ℕ). drop n (p ++ x)) (add-assoc (length p) f (length new)) ∙ drop-append-add p x (f + length new))
     ∙ append-assoc p (take f x) (new ++ drop (f + length new) x)
 
-replaced-back : (p x : List ℕ) (f : ℕ) (new : List ℕ) → f + length new ≤ length p → replaced (p ++ x) f new ≡ replaced p f new ++ x
+pub replaced-back : (p x : List ℕ) (f : ℕ) (new : List ℕ) → f + length new ≤ length p → replaced (p ++ x) f new ≡ replaced p f new ++ x
 unfolding replaced
 replaced-back p x f new h =
     ap₂ (λ (u v : List ℕ). u ++ (new ++ v)) (take-append-le f p x (omega arith)) (drop-append-le (f + length new) p x h)

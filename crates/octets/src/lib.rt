@@ -142,20 +142,6 @@ pub fn filled(s: &[u8], at: usize, n: usize, b: u8) -> bool
     differ == 0
 }
 
-// Whether the n words of four bytes from at on are all 0. All of them are looked at, so that the loop has one way out.
-pub fn zero_words(s: &[u8], at: usize, n: usize) -> bool
-    requires { ⌜ at + 4 * n ≤ length (now s) ⌝ }
-    ensures { λ r. ⌜ r ≡ P.equal (part (now (s .entry)) at (4 * n)) (repeated (4 * n) 0) ⌝ }
-{
-    let mut any: u32 = 0;
-    let mut i = 0;
-    while i < n {
-        any = any | load_u32(s, at + 4 * i);
-        i += 1;
-    }
-    any == 0
-}
-
 // Whether the two slices hold the same bytes. Where they are as long as each other all bytes are looked at, so
 // that the time taken does not tell where they differ.
 pub fn equal(a: &[u8], b: &[u8]) -> bool

@@ -1,9 +1,9 @@
--- A store that fits its bytes fits them after each accepted call. Assumes nothing.
+-- A store that fits its bytes fits them after each accepted call, and so does one whose blocks are below any bound. Assumes nothing.
 use mathlib.Core.Path.{_≡_, ap, sym, subst, _∙_}
 use mathlib.Core.Bool.{Bool, true, false, _&&_}
 use mathlib.Mathlib.Data.Bool.Basic.{and-intro, and-elim-left, and-elim-right}
 use mathlib.Core.List.{List, [], _∷_, _++_, all}
-use mathlib.Core.Option.{some, none}
+use mathlib.Core.Option.{some}
 use Prim.Native.Nat.{ℕ, _+_, _≤_, _<_, _^_}
 use native.Mathlib.Omega.{arith}
 use native.Mathlib.Nat.{mul-le-mul-left}
@@ -22,8 +22,8 @@ use Rattle.machine.proofs.StepLaw.{accepts}
 use Rattle.versions_machine.specs.Versions.{Range, recordOf, Versions, replacedBy, entered, logged}
 use Rattle.versions_machine.specs.Log.{isFull, isSound}
 use Rattle.versions_machine.specs.Allocation.{nextFor}
-use Rattle.versions_machine.specs.Plan.{Plan, writing, unfreezes, given, carriedOut, logPlan, duePlan, versionOrders, putPlan}
-use Rattle.versions_machine.specs.Call.{Result, resultOf, lastPart, put, putQuestions, flush, flushQuestions, flushPlan}
+use Rattle.versions_machine.specs.Plan.{Plan, planOf, writing, unfreezes, given, logPlan, duePlan, versionOrders, putPlan}
+use Rattle.versions_machine.specs.Call.{Result, lastPart, put, putQuestions, flush, flushQuestions, flushPlan}
 use Rattle.versions_machine.specs.After.{between}
 use Rattle.versions_machine.proofs.AllocationLaw.{next-below}
 use Rattle.versions_machine.proofs.CarryLaw.{carried-first, accepted-done}
@@ -34,6 +34,7 @@ use Rattle.versions_machine.proofs.DoesLaw.{put-does, flush-none, flush-plan, f
 use Rattle.versions_state.specs.Layout.{fieldSize}
 use Rattle.versions_state.specs.State.{isBlock, isRecord}
 use Rattle.versions_bytes.specs.Claims.{Fits, HasNumbers}
+use Rattle.versions_bytes.proofs.FieldsLaw.{Fields, fields, fits}
 
 module _ {A : Type 0} (p : A → Bool) where
   all-append : (xs : List A) (x : A) → all xs p ≡ true → p x ≡ true → all (xs ++ (x ∷ [])) p ≡ true
@@ -48,24 +49,10 @@ module _ {γ : Geometry} (σ : Proper γ) where
   unfolding dataBlocks
   more-blocks g h l = mul-le-mul-left (groupData γ) l
 
-  -- what fits but for the state's soundness, which a store has only between calls
-  pub record Fields (ν : Versions) : Type 0 where
-    pub newest : (part block : ℕ) → ν .newest part ≡ some block → isBlock γ block ≡ true
-    pub no-more : (part : ℕ) → lastPart < part → ν .newest part ≡ none
-    pub records : all (ν .records) (isRecord γ) ≡ true
-    pub reserve : ν .reserve < 256 ^ fieldSize
-    pub taken : ν .taken < 256 ^ fieldSize
-
-  fields : (ν : Versions) → Fits γ ν → Fields ν
-  fields ν h = record { newest = h .newest; no-more = h .no-more; records = h .records; reserve = h .reserve; taken = h .taken }
-
-  fits : (ν : Versions) → isSound γ ν ≡ true → Fields ν → Fits γ ν
-  fits ν s h = record { sound = s; newest = h .newest; no-more = h .no-more; records = h .records; reserve = h .reserve; taken = h .taken }
-
-  entered-fields : (ν : Versions) (part block : ℕ) → part ≤ lastPart → isBlock γ block ≡ true → block < 256 ^ fieldSize → Fields ν
-      → Fields (entered ν part block)
+  entered-fields : (bound : ℕ) (ν : Versions) (part block : ℕ) → part ≤ lastPart → isBlock γ block ≡ true → block < bound → Fields γ bound ν
+      → Fields γ bound (entered ν part block)
   unfolding entered
-  entered-fields ν part block p b l h =
+  entered-fields bound ν part block p b l h =
       record {
         newest =
             λ k a e.
@@ -81,29 +68,53 @@ module _ {γ : Geometry} (σ : Proper γ) where
       block-is : (k a : ℕ) → k ≡ part → replacedBy (ν .newest) part block k ≡ some a → block ≡ a
       block-is k a same e = let x : some block ≡ some a = sym (ap (replacedBy (ν .newest) part block) same ∙ newest-own (ν .newest) part block) ∙ e in cc
 
-  logged-fields : (ν : Versions) (pointer : ℕ) → pointer < 256 ^ fieldSize → Fields ν → Fields (logged ν pointer)
+  logged-fields : (bound : ℕ) (ν : Versions) (pointer : ℕ) → pointer < bound → Fields γ bound ν → Fields γ bound (logged ν pointer)
   unfolding logged
-  logged-fields ν pointer l h =
+  logged-fields bound ν pointer l h =
       record { newest = h .newest; no-more = h .no-more; records = all-none (isRecord γ); reserve = l; taken = l }
 
-  module _ (ρ : Range) (numbers : HasNumbers ρ) where
-    log-fields : (ν : Versions) (t : Box) (now : ℕ) → Fields ν → Fields (logPlan γ ρ ν t now .after)
+  -- ---- a store on demand
+
+  module _ (ρ : Range) (ν : Versions) (s : Box) (now : ℕ) (a : flush γ ρ ν s now .number ≡ 0) where
+    -- what it leaves is what its plan does
+    flush-after : (plan : Plan) → flushPlan γ ρ ν s now ≡ plan → flush γ ρ ν s now .versions ≡ plan .after
+    unfolding flush
+    flush-after plan e =
+        let d = accepted-done γ (flushQuestions γ ρ ν s now) 0 (flushPlan γ ρ ν s now) ν s a in
+        ap (λ (r : Result). r .versions) (d .result) ∙ ap (λ (p : Plan). p .after) e
+
+    flush-kept : length (ν .records) ≡ 0 → flush γ ρ ν s now .versions ≡ ν
+    flush-kept e = flush-after (planOf [] ν) (flush-none σ ρ ν s now e .1)
+
+    flush-logged : (length (ν .records) ≡ 0 → ⊥) → flush γ ρ ν s now .versions ≡ logPlan γ ρ ν s now .after
+    flush-logged d = flush-after (logPlan γ ρ ν s now) (flush-plan σ ρ ν s now d)
+
+    pub flush-sound : isSound γ ν ≡ true → isSound γ (flush γ ρ ν s now .versions) ≡ true
+    flush-sound h =
+        same-or-not (length (ν .records)) 0
+        (λ e. ap (isSound γ) (flush-kept e) ∙ h)
+        (λ d. flush-does σ ρ ν s now a d .still .sound)
+
+  -- ---- with any bound that the range keeps
+
+  module _ (ρ : Range) (bound : ℕ) (within : ρ .first + ρ .number ≤ bound) where
+    log-fields : (ν : Versions) (t : Box) (now : ℕ) → Fields γ bound ν → Fields γ bound (logPlan γ ρ ν t now .after)
     unfolding logPlan
     log-fields ν t now h =
-        logged-fields ν (nextFor γ ρ t now ν) (next-below γ ρ t now (ν .reserve) (ν .taken) (256 ^ fieldSize) (omega arith) (h .taken)) h
+        logged-fields bound ν (nextFor γ ρ t now ν) (next-below γ ρ t now (ν .reserve) (ν .taken) bound within (h .taken)) h
 
-    due-fields : (ν : Versions) (t : Box) (now : ℕ) → Fields ν → Fields (duePlan γ ρ ν t now .after)
+    due-fields : (ν : Versions) (t : Box) (now : ℕ) → Fields γ bound ν → Fields γ bound (duePlan γ ρ ν t now .after)
     unfolding duePlan
     due-fields ν t now h = go (isFull γ ν)
       where
-        go : (full : Bool) → Fields (chosen (logPlan γ ρ ν t now) ν full .after)
+        go : (full : Bool) → Fields γ bound (chosen (logPlan γ ρ ν t now) ν full .after)
         go true = log-fields ν t now h
         go false = h
 
-    pub put-fits : (ν : Versions) (s : Box) (part now : ℕ) (content : List ℕ) → put γ ρ ν s part now content .number ≡ 0 → Fits γ ν
-        → Fits γ (put γ ρ ν s part now content .versions)
+    pub put-fields : (ν : Versions) (s : Box) (part now : ℕ) (content : List ℕ) → put γ ρ ν s part now content .number ≡ 0 → Fields γ bound ν
+        → Fields γ bound (put γ ρ ν s part now content .versions)
     unfolding put putPlan versionOrders putQuestions
-    put-fits ν s part now content a h =
+    put-fields ν s part now content a h =
         let v = nextFor γ ρ s now ν in
         let plan = putPlan γ ρ ν s part now content in
         let d = accepted-done γ (putQuestions γ ρ ν s part now) v plan ν s a in
@@ -116,21 +127,28 @@ module _ {γ : Geometry} (σ : Proper γ) where
         changes σ (Write (ν .lock)) s (given γ s o) (order-yes σ s o (accepts σ s (given γ s o) first)) .range in
         let most = more-blocks (groups γ (s .memory)) (γ .mostGroups) (facts σ (s .memory) (box .memory) .most) in
         let f =
-        entered-fields ν part v (leb-true part lastPart (y .0)) (lt-ltb v (dataBlocks γ (γ .mostGroups)) (omega arith))
-        (next-below γ ρ s now (ν .reserve) (ν .taken) (256 ^ fieldSize) (omega arith) (h .taken)) (fields ν h) in
-        fits (put γ ρ ν s part now content .versions) (put-does σ ρ ν s part now content a .still .sound)
-        (subst (λ (r : Result). Fields (r .versions)) (sym (d .result)) (due-fields (entered ν part v) (between γ ρ ν s part now content) now f))
+        entered-fields bound ν part v (leb-true part lastPart (y .0)) (lt-ltb v (dataBlocks γ (γ .mostGroups)) (omega arith))
+        (next-below γ ρ s now (ν .reserve) (ν .taken) bound within (h .taken)) h in
+        subst (λ (r : Result). Fields γ bound (r .versions)) (sym (d .result))
+        (due-fields (entered ν part v) (between γ ρ ν s part now content) now f)
+
+    pub flush-fields : (ν : Versions) (s : Box) (now : ℕ) → flush γ ρ ν s now .number ≡ 0 → Fields γ bound ν
+        → Fields γ bound (flush γ ρ ν s now .versions)
+    flush-fields ν s now a h =
+        same-or-not (length (ν .records)) 0
+        (λ e. subst (Fields γ bound) (sym (flush-kept ρ ν s now a e)) h)
+        (λ d. subst (Fields γ bound) (sym (flush-logged ρ ν s now a d)) (log-fields ν s now h))
+
+  -- ---- with the bound that the fields have
+
+  module _ (ρ : Range) (numbers : HasNumbers ρ) where
+    pub put-fits : (ν : Versions) (s : Box) (part now : ℕ) (content : List ℕ) → put γ ρ ν s part now content .number ≡ 0 → Fits γ ν
+        → Fits γ (put γ ρ ν s part now content .versions)
+    put-fits ν s part now content a h =
+        fits γ (put γ ρ ν s part now content .versions) (put-does σ ρ ν s part now content a .still .sound)
+        (put-fields ρ (256 ^ fieldSize) (omega arith) ν s part now content a (fields γ ν h))
 
     pub flush-fits : (ν : Versions) (s : Box) (now : ℕ) → flush γ ρ ν s now .number ≡ 0 → Fits γ ν → Fits γ (flush γ ρ ν s now .versions)
-    unfolding flush
     flush-fits ν s now a h =
-        let d = accepted-done γ (flushQuestions γ ρ ν s now) 0 (flushPlan γ ρ ν s now) ν s a in
-        same-or-not (length (ν .records)) 0
-        (λ none.
-        subst (λ (r : Result). Fits γ (r .versions))
-        (sym (d .result ∙ ap (λ (p : Plan). resultOf 0 0 (p .after) (carriedOut γ s (p .orders) .box)) (flush-none σ ρ ν s now none .1))) h)
-        (λ some.
-        fits (flush γ ρ ν s now .versions) (flush-does σ ρ ν s now a some .still .sound)
-        (subst (λ (r : Result). Fields (r .versions))
-        (sym (d .result ∙ ap (λ (p : Plan). resultOf 0 0 (p .after) (carriedOut γ s (p .orders) .box)) (flush-plan σ ρ ν s now some)))
-        (log-fields ν s now (fields ν h))))
+        fits γ (flush γ ρ ν s now .versions) (flush-sound ρ ν s now a (h .sound))
+        (flush-fields ρ (256 ^ fieldSize) (omega arith) ν s now a (fields γ ν h))

@@ -4,6 +4,7 @@ pub mod NewestLaw
 pub mod RecordLaw
 pub mod StateLaw
 pub mod FitLaw
+pub mod FieldsLaw
 pub mod ReadFitsLaw
 pub mod CallFitsLaw
 pub mod FollowLaw

@@ -3,7 +3,7 @@ use mathlib.Core.Path.{_≡_, refl, ap, sym, _∙_}
 use mathlib.Core.Bool.{Bool, true, false, _||_}
 use mathlib.Core.List.{List}
 use mathlib.Core.Option.{some, none}
-use Prim.Native.Nat.{ℕ, _<_}
+use Prim.Native.Nat.{ℕ, _<_, _^_}
 use native.Mathlib.Omega.{arith}
 use borrow.Author.Tests.{leb-true, lt-leb}
 use lib.Dec.{eqb, leb}
@@ -15,9 +15,10 @@ use Rattle.versions_machine.specs.Versions.{noBlock, blockNamed}
 use Rattle.versions_machine.specs.Call.{lastPart}
 use Rattle.versions_state.specs.Layout.{fieldSize, reserveStart, takenStart, parts}
 use Rattle.versions_state.specs.State.{newestNumber, newestIn, versionsIn, isBlock, isNewest, newestsFit, recordsFit, isValid}
-use Rattle.versions_bytes.specs.Claims.{Fits, Read}
+use Rattle.versions_bytes.specs.Claims.{Read}
 use Rattle.versions_state.proofs.ValidLaw.{facts, sound, read-back}
 use Rattle.versions_state.proofs.CheckLaw.{from-listed}
+use Rattle.versions_bytes.proofs.FieldsLaw.{Fields, fits}
 
 module _ (γ : Geometry) where
   -- a number that is a newest block, and does not name none
@@ -28,7 +29,7 @@ module _ (γ : Geometry) where
       go true w q = absurd (let z : _≡_ {A = ℕ} 0 1 = cc in omega arith)
       go false w q = let same : n ≡ block = cc in ap (isBlock γ) (sym same) ∙ w
 
-  module _ (state : List ℕ) (b : AreBytes state) (v : isValid γ state ≡ true) where
+  module _ (state : List ℕ) (v : isValid γ state ≡ true) where
     newest-fits : (p : ℕ) → leb p lastPart ≡ true → isNewest γ (newestNumber state p) ≡ true
     unfolding newestsFit
     newest-fits p h =
@@ -49,17 +50,18 @@ module _ (γ : Geometry) where
     unfolding newestIn
     no-newest p h = ap (λ (t : Bool). elim t [ true ↦ blockNamed (newestNumber state p) | false ↦ none ]) (lt-leb p lastPart h)
 
-    read-fits : Fits γ (versionsIn state)
+    -- whatever the reserve and the block last taken are
+    pub read-fields : (bound : ℕ) → versionsIn state .reserve < bound → versionsIn state .taken < bound → Fields γ bound (versionsIn state)
     unfolding versionsIn recordsFit
-    read-fits =
-        record {
-          sound = sound γ state v;
-          newest = newest-block;
-          no-more = no-newest;
-          records = facts γ state v .records;
-          reserve = numberAt-small state reserveStart fieldSize b;
-          taken = numberAt-small state takenStart fieldSize b;
-        }
+    read-fields bound r t =
+        record { newest = newest-block; no-more = no-newest; records = facts γ state v .records; reserve = r; taken = t }
 
-    pub read-whole : Read γ state
-    read-whole = record { same = sym (read-back γ state b v); fits = read-fits }
+    pub read-whole : AreBytes state → Read γ state
+    unfolding versionsIn
+    read-whole b =
+        record {
+          same = sym (read-back γ state b v);
+          fits =
+              fits γ (versionsIn state) (sound γ state v)
+              (read-fields (256 ^ fieldSize) (numberAt-small state reserveStart fieldSize b) (numberAt-small state takenStart fieldSize b));
+        }

@@ -7,8 +7,7 @@ use native.Mathlib.Nat.{sub-zero}
 use native.Mathlib.Omega.{arith}
 use lib.ListN.{length, length-append}
 use Rattle.octets.specs.Part.{repeated}
-use Rattle.octets.proofs.PartLaw.{part-add, part-all}
-use Rattle.octets.proofs.RepeatedLaw.{repeated-length, repeated-part}
+use Rattle.octets.proofs.RepeatedLaw.{repeated-length, repeated-add}
 use Rattle.lockpage.specs.Geometry.{Geometry}
 use Rattle.versions_machine.specs.Versions.{Record}
 use Rattle.versions_machine.specs.Log.{recordSize, recordBytes, recordsBytes, unused}
@@ -16,13 +15,6 @@ use Rattle.versions_machine.proofs.LogLaw.{records-length}
 use Rattle.versions_state.specs.Layout.{mostRecords}
 use Rattle.versions_state.specs.State.{recordsArea}
 use Rattle.versions_bytes.proofs.PlaceLaw.{Place, between}
-
--- an element repeated, in two
-pub repeated-add : (j k b : ℕ) → repeated (j + k) b ≡ repeated j b ++ repeated k b
-repeated-add j k b =
-    sym (part-all (repeated (j + k) b) (j + k) (omega (arith, repeated-length (j + k) b)))
-    ∙ part-add (repeated (j + k) b) 0 j k
-    ∙ ap₂ _++_ (repeated-part (j + k) b 0 j (omega arith)) (repeated-part (j + k) b (0 + j) k (omega arith))
 
 pub records-append : (xs : List Record) (x : Record) → recordsBytes (xs ++ (x ∷ [])) ≡ recordsBytes xs ++ recordBytes x
 unfolding recordsBytes

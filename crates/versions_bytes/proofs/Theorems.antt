@@ -22,7 +22,7 @@ module _ {γ : Geometry} (σ : Proper γ) where
 
 pub valid-is-read : (γ : Geometry) → ValidIsRead γ
 unfolding ValidIsRead
-valid-is-read γ = read-whole γ
+valid-is-read γ state b v = read-whole γ state v b
 
 module _ {γ : Geometry} (σ : Proper γ) (ρ : Range) where
   pub bytes-follow : BytesFollow γ ρ

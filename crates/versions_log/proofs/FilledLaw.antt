@@ -7,7 +7,7 @@ use native.Mathlib.Omega.{arith}
 use lib.ListN.{length, length-append}
 use Rattle.octets.specs.Part.{AreBytes, part, replaced, repeated}
 use Rattle.octets.specs.Number.{bytes, withNumber}
-use Rattle.octets.proofs.RepeatedLaw.{repeated-length}
+use Rattle.octets.proofs.RepeatedLaw.{repeated-length, repeated-add}
 use Rattle.octets.proofs.ReplacedLaw.{replaced-length, replaced-all, replaced-next}
 use Rattle.octets.proofs.NumberLaw.{bytes-length}
 use Rattle.lockpage.specs.Geometry.{Geometry}
@@ -19,7 +19,7 @@ use Rattle.versions_state.specs.Layout.{parts, recordsStart, mostRecords}
 use Rattle.versions_state.specs.State.{newestBytes, recordsArea, stateBytes, recordCount, versionsIn, isValid}
 use Rattle.versions_bytes.proofs.PlaceLaw.{alone, place-read}
 use Rattle.versions_bytes.proofs.NewestLaw.{newests-length}
-use Rattle.versions_bytes.proofs.RecordLaw.{repeated-add, records-append, area-length}
+use Rattle.versions_bytes.proofs.RecordLaw.{records-append, area-length}
 use Rattle.versions_bytes.proofs.StateLaw.{area-place, record-stored}
 use Rattle.versions_state.proofs.ValidLaw.{facts, count-read, read-back, few-read}
 

@@ -7,7 +7,7 @@ use native.Mathlib.Omega.{arith}
 use lib.ListN.{length, length-append}
 use Rattle.octets.specs.Part.{AreBytes, replaced, repeated}
 use Rattle.octets.specs.Number.{bytes, withNumber}
-use Rattle.octets.proofs.RepeatedLaw.{repeated-length}
+use Rattle.octets.proofs.RepeatedLaw.{repeated-length, repeated-add}
 use Rattle.octets.proofs.ReplacedLaw.{replaced-all, replaced-next}
 use Rattle.octets.proofs.NumberLaw.{bytes-length}
 use Rattle.lockpage.specs.Geometry.{Geometry}
@@ -19,7 +19,7 @@ use Rattle.versions_state.specs.Layout.{fieldSize, lockStart, reserveStart, tak
 use Rattle.versions_state.specs.Layout.{recordsStart, recordStart, mostRecords, stateSize}
 use Rattle.versions_state.specs.State.{stateBytes, recordCount, versionsIn, isValid}
 use Rattle.versions_bytes.proofs.NewestLaw.{newests-none}
-use Rattle.versions_bytes.proofs.RecordLaw.{repeated-add, area-none}
+use Rattle.versions_bytes.proofs.RecordLaw.{area-none}
 use Rattle.versions_bytes.proofs.StateLaw.{state-length, reserve-set, taken-set, newest-set, records-cleared, record-added, record-stored}
 use Rattle.versions_state.proofs.ValidLaw.{count-read, read-back}
 
