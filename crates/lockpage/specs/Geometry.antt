@@ -21,6 +21,10 @@ pub record Proper (γ : Geometry) : Type 0 where
 abbrev pub base : Geometry
 base = record { entries = 64; mostGroups = 16 }
 
--- the box that the code runs
+-- γ with n groups at most
+abbrev pub widened : Geometry → ℕ → Geometry
+widened γ n = record { entries = γ .entries; mostGroups = n }
+
+-- the box that the code runs. Document 02, Q-7: "G may be 1 to 64. The memory has 64 counts"
 abbrev pub present : Geometry
-present = base
+present = widened base 64

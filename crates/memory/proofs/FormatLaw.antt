@@ -17,7 +17,7 @@ use Rattle.memory.proofs.FieldLaw.{salt-in, salt-rest, groups-in, held-
 
 -- γ is any proper geometry
 module _ {γ : Geometry} (σ : Proper γ) where
-  -- 616 zeros
+  -- a memory of zeros
   blank : List ℕ
   blank = repeated (memorySize γ) 0
 

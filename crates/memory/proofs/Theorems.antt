@@ -1,11 +1,12 @@
 -- The claims of specs/Claims.antt, proved. Assumes nothing.
 use mathlib.Core.Path.{refl}
 use Rattle.lockpage.specs.Geometry.{Geometry, Proper}
-use Rattle.memory.specs.Claims.{PapersPlaces, GetAfterSet, FormattedReads}
+use Rattle.memory.specs.Claims.{PapersPlaces, PapersPresentPlaces, GetAfterSet, FormattedReads}
 use Rattle.memory.proofs.FieldLaw.{salt-set, count-set, counts-cleared, time-set, groups-set, held-set, updates-set, page-set, page-held, page-dropped}
 use Rattle.memory.proofs.FormatLaw as F
 
 pub papers-places : PapersPlaces
+unfolding PapersPlaces
 papers-places =
     record {
       salt-at = (refl, refl);
@@ -16,6 +17,22 @@ papers-places =
       update-count-at = refl;
       reserved-at = (refl, refl);
       page-at = (refl, refl);
+      size = refl;
+    }
+
+pub papers-present-places : PapersPresentPlaces
+unfolding PapersPresentPlaces
+papers-present-places =
+    record {
+      salt-at = (refl, refl);
+      counts-at = (refl, refl);
+      time-at = (refl, refl);
+      groups-at = refl;
+      held-at = refl;
+      update-count-at = refl;
+      reserved-at = (refl, refl);
+      page-at = (refl, refl);
+      size = refl;
     }
 
 -- γ is any proper geometry

@@ -6,26 +6,35 @@ use mathlib.Core.List.{List}
 use lib.ListN.{length}
 use lib.Dec.{eqb}
 use Rattle.octets.specs.Part.{repeated}
-use Rattle.lockpage.specs.Geometry.{Geometry, base}
+use Rattle.lockpage.specs.Geometry.{Geometry, base, present}
 use Rattle.lockpage.specs.Size.{pageSize}
 use Rattle.memory.specs.Layout.{memorySize, saltStart, saltSize, countSize, countStart, timeStart, timeSize, groupsStart, heldStart, updateCountStart}
 use Rattle.memory.specs.Layout.{reservedStart, reservedSize, pageStart}
 use Rattle.memory.specs.Memory.{salt, count, lastTime, groups, held, none, updateCount, heldPage, withSalt, withCount, withNoCounts, withLastTime}
 use Rattle.memory.specs.Memory.{withGroups, withHeld, withUpdateCount, withHeldPage, holding, holdingNone, formattedMemory}
 
--- ---- document 01's places
+-- ---- the papers' places
 
--- "0..31 salt; 32..95 sixteen 4-byte freshness counts; 96..99 last time; 100 G; 101 held group or 255; 102, 103 zero; 104..615 held
--- page"; document 02, Q-4: "Byte 102 of the memory now counts updates to the held page"
-pub record PapersPlaces : Type 0 where
+-- where the fields of a box stand, and the end of its memory
+pub record Places (γ : Geometry) (time groups held updates reserved page end : ℕ) : Type 0 where
   pub salt-at : (saltStart ≡ 0) × (saltStart + saltSize ≡ 32)
-  pub counts-at : (countStart 0 ≡ 32) × (countStart (base .mostGroups) ≡ 96)
-  pub time-at : (timeStart base ≡ 96) × (timeStart base + timeSize ≡ 100)
-  pub groups-at : groupsStart base ≡ 100
-  pub held-at : heldStart base ≡ 101
-  pub update-count-at : updateCountStart base ≡ 102
-  pub reserved-at : (reservedStart base ≡ 103) × (reservedStart base + reservedSize ≡ 104)
-  pub page-at : (pageStart base ≡ 104) × (pageStart base + pageSize base ≡ 616)
+  pub counts-at : (countStart 0 ≡ 32) × (countStart (γ .mostGroups) ≡ time)
+  pub time-at : (timeStart γ ≡ time) × (timeStart γ + timeSize ≡ groups)
+  pub groups-at : groupsStart γ ≡ groups
+  pub held-at : heldStart γ ≡ held
+  pub update-count-at : updateCountStart γ ≡ updates
+  pub reserved-at : (reservedStart γ ≡ reserved) × (reservedStart γ + reservedSize ≡ page)
+  pub page-at : (pageStart γ ≡ page) × (pageStart γ + pageSize γ ≡ end)
+  pub size : memorySize γ ≡ end
+
+-- "Controller memory, 616 bytes": "0..31 salt; 32..95 sixteen 4-byte freshness counts; 96..99 last time; 100 G; 101 held group or 255;
+-- 102, 103 zero; 104..615 held page"; document 02, Q-4: "Byte 102 of the memory now counts updates to the held page"
+unfoldable pub PapersPlaces : Type 0
+PapersPlaces = Places base 96 100 101 102 103 104 616
+
+-- document 02, Q-7: "it is 808 bytes: counts 32..287, last time 288, G 292, held 293, update count 294, zero 295, page 296..807"
+unfoldable pub PapersPresentPlaces : Type 0
+PapersPresentPlaces = Places present 288 292 293 294 295 296 808
 
 -- ---- get after set: what each field reads
 

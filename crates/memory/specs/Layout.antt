@@ -1,5 +1,5 @@
 -- Where each field of the controller memory stands, one after the other, after document 01, "Controller memory, 616 bytes". That
--- the places are the paper's numbers is the claim PapersPlaces. Assumes nothing: these are definitions.
+-- the places are the papers' numbers are the claims PapersPlaces and PapersPresentPlaces. Assumes nothing: these are definitions.
 use Prim.Native.Nat.{ℕ, _+_, _*_}
 use Rattle.lockpage.specs.Geometry.{Geometry}
 use Rattle.lockpage.specs.Size.{pageSize}

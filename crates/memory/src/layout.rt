@@ -10,7 +10,7 @@ pub const COUNTS_START: usize = SALT_START + SALT_SIZE;
 
 pub const COUNT_SIZE: usize = 4;
 
-pub const MOST_GROUPS: u32 = 16;
+pub const MOST_GROUPS: u32 = 64;
 
 pub const TIME_START: usize = COUNTS_START + COUNT_SIZE * MOST_GROUPS as usize;
 

@@ -6,7 +6,7 @@ use mathlib.Core.List.{List, all}
 use mathlib.Core.Option.{some, none}
 use Prim.Native.Nat.{ℕ, _+_, _≤_, _<_, _^_}
 use Rattle.octets.specs.Part.{AreBytes}
-use Rattle.lockpage.specs.Geometry.{Geometry, base}
+use Rattle.lockpage.specs.Geometry.{Geometry, present}
 use Rattle.machine.specs.Command.{Box}
 use Rattle.versions_machine.specs.Versions.{Range, Versions}
 use Rattle.versions_machine.specs.Log.{recordsPerBlock, isSound}
@@ -19,7 +19,7 @@ use Rattle.versions_bytes.specs.Run.{Buffers, buffersOf, callsOn}
 
 -- the header's number
 unfoldable pub PresentStateSize : Type 0
-PresentStateSize = stateSize base ≡ 1536
+PresentStateSize = stateSize present ≡ 1536
 
 module _ (γ : Geometry) where
   -- what has room in its field, and is such as a start and calls leave it
