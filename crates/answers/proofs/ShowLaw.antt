@@ -10,7 +10,7 @@ use Rattle.octets.specs.Number.{bytes, withNumber}
 use Rattle.octets.proofs.RepeatedLaw.{repeated-length}
 use Rattle.octets.proofs.PartLaw.{part-first}
 use Rattle.octets.proofs.NumberLaw.{bytes-length, withNumber-byte}
-use Rattle.octets.proofs.ReplacedLaw.{replaced-all, lent-filled, replaced-next}
+use Rattle.octets.proofs.ReplacedLaw.{replaced-all, all-copied, replaced-next}
 use Rattle.lockpage.specs.Geometry.{Geometry, Proper}
 use Rattle.lockpage.specs.Size.{blockSize, entrySize, pageSize}
 use Rattle.lockpage.specs.declared.Entry.{Entry}
@@ -81,18 +81,19 @@ module _ {γ : Geometry} (σ : Proper γ) where
 
   -- the last time is set first
   module _ (m disk memory : List ℕ) (now : ℕ) (em : memory ≡ withLastTime γ m now) where
-    pub read-outcome : (answer out r : List ℕ) (a : ℕ) → length disk ≡ diskSize γ (groups γ m) → a < dataBlocks γ (groups γ m)
-        → length answer ≡ answerSize γ → out ≡ block γ disk (physical γ a)
-        → r ≡ replaced (out ++ drop (blockSize γ) answer) (blockSize γ) (repeated (answerSize γ - blockSize γ) 0)
+    -- the block goes by a buffer, out
+    pub read-outcome : (answer out copied r : List ℕ) (a : ℕ) → length disk ≡ diskSize γ (groups γ m) → a < dataBlocks γ (groups γ m)
+        → length answer ≡ answerSize γ → out ≡ block γ disk (physical γ a) → copied ≡ replaced answer 0 (part out 0 (blockSize γ))
+        → r ≡ replaced copied (blockSize γ) (repeated (answerSize γ - blockSize γ) 0)
         → outcomeOf 0 memory disk r ≡ accepted γ (λ s. read γ s a) (boxOf m disk) now
     unfolding read timed
-    read-outcome answer out r a ld h la eo er =
+    read-outcome answer out copied r a ld h la eo ec er =
         let b = block γ disk (physical γ a) in
         let size : length b ≡ blockSize γ =
         block-length σ disk (physical γ a) (block-within σ disk (groups γ m) (physical γ a) ld (physical-below σ (groups γ m) a h)) in
         shown m disk memory b r now em
-        (tail-zeroed σ answer (out ++ drop (blockSize γ) answer) b r (blockSize γ) la (sym size) (omega arith)
-        (lent-filled answer b out 0 (blockSize γ) size eo) er)
+        (tail-zeroed σ answer copied b r (blockSize γ) la (sym size) (omega arith)
+        (all-copied answer out copied 0 (blockSize γ) (ap length eo ∙ size) ec ∙ ap (replaced answer 0) eo) er)
 
     pub entry-outcome : (r : List ℕ) (a : ℕ) (e : Entry) → e ≡ currentEntry γ (boxOf memory disk) a
         → r ≡ padded γ (entryAnswer now e) → outcomeOf 0 memory disk r ≡ accepted γ (λ s. showEntry γ s a now) (boxOf m disk) now

@@ -17,14 +17,16 @@ use lockpage::states;
 // The bytes of each number that an identify answers.
 const IDENTIFY_SIZE: usize = 4;
 
-// Kind 1: a block.
+// Kind 1: a block. It goes by a buffer: the compiler does not know that disk and answer are apart, and makes one move of the two copies.
 pub fn read(memory: &mut [u8], disk: &[u8], block: u32, time: u32, answer: &mut [u8])
     requires { ⌜ BlockReady present (boxAt memory disk) block (now answer) ⌝ }
     ensures { λ _. ⌜ outcomeAt 0 (memory .exit) (disk .entry) (answer .exit)
         ≡ accepted present (λ s. E.read present s block) (boxAt (memory .entry) (disk .entry)) time ⌝ }
 {
     memory::set_last_time(memory, time);
-    disk::whole::read_block(disk, block, &mut answer[0..addressing::BLOCK_SIZE]);
+    let mut content = [0u8; addressing::BLOCK_SIZE];
+    disk::whole::read_block(disk, block, &mut content);
+    octets::copy(&content, 0, answer, 0, addressing::BLOCK_SIZE);
     tail::zero_tail(answer, addressing::BLOCK_SIZE);
 }
 

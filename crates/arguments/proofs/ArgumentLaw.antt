@@ -18,16 +18,6 @@ use Rattle.machine.specs.Question.{Question, question2, question3, question4, q
 use Rattle.machine.proofs.QuestionLaw.{Numbered, says-no, goes-on}
 use Rattle.arguments.specs.ArgumentQuestions.{argumentQuestions}
 
--- γ is the box's geometry
-module _ (γ : Geometry) where
-  -- what the code has found of each
-  pub record Answers (k : Kind) (m disk : List ℕ) (a now : ℕ) (content proof answer : List ℕ) (fits known timely inside sized : Bool) : Type 0 where
-    pub disk-size : fits ≡ passes (question2 γ m disk)
-    pub kind : known ≡ passes (question3 γ k)
-    pub time : timely ≡ passes (question4 γ m now)
-    pub address : inside ≡ passes (question5 γ k (groups γ m) a)
-    pub lengths : sized ≡ passes (question6 γ k content proof answer)
-
 -- γ is any proper geometry
 module _ {γ : Geometry} (σ : Proper γ) where
   -- ---- one by one
@@ -92,8 +82,8 @@ module _ {γ : Geometry} (σ : Proper γ) where
   fifth Identify g a = tt
   fifth Unknown g a = tt
 
-  module _ (k : Kind) (m disk : List ℕ) (a now : ℕ) (content proof answer : List ℕ) (fits known timely inside sized : Bool)
-      (h : Answers γ k m disk a now content proof answer fits known timely inside sized) where
+  -- an answer after the other; p says that it was yes
+  module _ (k : Kind) (m disk : List ℕ) (a now : ℕ) (content proof answer : List ℕ) where
     -- the questions from 6, 5, 4 and 3 on, and all of them
     abbrev from-6 : List Question
     from-6 = question6 γ k content proof answer ∷ []
@@ -110,36 +100,38 @@ module _ {γ : Geometry} (σ : Proper γ) where
     abbrev asked : List Question
     asked = argumentQuestions γ k m disk a now content proof answer
 
-    pub no-2 : not fits ≡ true → 2 ≡ firstNo asked
-    no-2 x = says-no 2 (question2 γ m disk) from-3 fits refl (h .disk-size) x
+    module _ (fits : Bool) (e2 : fits ≡ passes (question2 γ m disk)) where
+      pub no-2 : not fits ≡ true → 2 ≡ firstNo asked
+      no-2 n = says-no 2 (question2 γ m disk) from-3 fits refl e2 n
 
-    after-2 : not fits ≡ false → firstNo from-3 ≡ firstNo asked
-    after-2 p2 = goes-on (question2 γ m disk) from-3 fits (h .disk-size) p2
+      module _ (p2 : not fits ≡ false) (known : Bool) (e3 : known ≡ passes (question3 γ k)) where
+        after-2 : firstNo from-3 ≡ firstNo asked
+        after-2 = goes-on (question2 γ m disk) from-3 fits e2 p2
 
-    pub no-3 : not fits ≡ false → not known ≡ true → 3 ≡ firstNo asked
-    no-3 p2 x = says-no 3 (question3 γ k) from-4 known (third k) (h .kind) x ∙ after-2 p2
+        pub no-3 : not known ≡ true → 3 ≡ firstNo asked
+        no-3 n = says-no 3 (question3 γ k) from-4 known (third k) e3 n ∙ after-2
 
-    after-3 : not fits ≡ false → not known ≡ false → firstNo from-4 ≡ firstNo asked
-    after-3 p2 p3 = goes-on (question3 γ k) from-4 known (h .kind) p3 ∙ after-2 p2
+        module _ (p3 : not known ≡ false) (timely : Bool) (e4 : timely ≡ passes (question4 γ m now)) where
+          after-3 : firstNo from-4 ≡ firstNo asked
+          after-3 = goes-on (question3 γ k) from-4 known e3 p3 ∙ after-2
 
-    pub no-4 : not fits ≡ false → not known ≡ false → not timely ≡ true → 4 ≡ firstNo asked
-    no-4 p2 p3 x = says-no 4 (question4 γ m now) from-5 timely refl (h .time) x ∙ after-3 p2 p3
+          pub no-4 : not timely ≡ true → 4 ≡ firstNo asked
+          no-4 n = says-no 4 (question4 γ m now) from-5 timely refl e4 n ∙ after-3
 
-    after-4 : not fits ≡ false → not known ≡ false → not timely ≡ false → firstNo from-5 ≡ firstNo asked
-    after-4 p2 p3 p4 = goes-on (question4 γ m now) from-5 timely (h .time) p4 ∙ after-3 p2 p3
+          module _ (p4 : not timely ≡ false) (inside : Bool) (e5 : inside ≡ passes (question5 γ k (groups γ m) a)) where
+            after-4 : firstNo from-5 ≡ firstNo asked
+            after-4 = goes-on (question4 γ m now) from-5 timely e4 p4 ∙ after-3
 
-    pub no-5 : not fits ≡ false → not known ≡ false → not timely ≡ false → not inside ≡ true → 5 ≡ firstNo asked
-    no-5 p2 p3 p4 x =
-        says-no 5 (question5 γ k (groups γ m) a) from-6 inside (fifth k (groups γ m) a) (h .address) x ∙ after-4 p2 p3 p4
+            pub no-5 : not inside ≡ true → 5 ≡ firstNo asked
+            no-5 n = says-no 5 (question5 γ k (groups γ m) a) from-6 inside (fifth k (groups γ m) a) e5 n ∙ after-4
 
-    after-5 : not fits ≡ false → not known ≡ false → not timely ≡ false → not inside ≡ false → firstNo from-6 ≡ firstNo asked
-    after-5 p2 p3 p4 p5 = goes-on (question5 γ k (groups γ m) a) from-6 inside (h .address) p5 ∙ after-4 p2 p3 p4
+            module _ (p5 : not inside ≡ false) (sized : Bool) (e6 : sized ≡ passes (question6 γ k content proof answer)) where
+              after-5 : firstNo from-6 ≡ firstNo asked
+              after-5 = goes-on (question5 γ k (groups γ m) a) from-6 inside e5 p5 ∙ after-4
 
-    pub no-6 : not fits ≡ false → not known ≡ false → not timely ≡ false → not inside ≡ false → not sized ≡ true
-        → 6 ≡ firstNo asked
-    no-6 p2 p3 p4 p5 x = says-no 6 (question6 γ k content proof answer) [] sized refl (h .lengths) x ∙ after-5 p2 p3 p4 p5
+              pub no-6 : not sized ≡ true → 6 ≡ firstNo asked
+              no-6 n = says-no 6 (question6 γ k content proof answer) [] sized refl e6 n ∙ after-5
 
-    pub none-no : not fits ≡ false → not known ≡ false → not timely ≡ false → not inside ≡ false → not sized ≡ false
-        → 0 ≡ firstNo asked
-    unfolding firstNo
-    none-no p2 p3 p4 p5 p6 = goes-on (question6 γ k content proof answer) [] sized (h .lengths) p6 ∙ after-5 p2 p3 p4 p5
+              pub none-no : not sized ≡ false → 0 ≡ firstNo asked
+              unfolding firstNo
+              none-no p6 = goes-on (question6 γ k content proof answer) [] sized e6 p6 ∙ after-5

@@ -10,14 +10,14 @@ ghost use Rattle.lockpage.specs.Geometry.{present};
 ghost use Rattle.lockpage.specs.Page.{entryAt};
 ghost use Rattle.addressing.specs.Map.{placeOf};
 ghost use Rattle.memory.specs.Layout.{memorySize};
-ghost use Rattle.machine.specs.Command.{proofSize, broughtPage};
+ghost use Rattle.machine.specs.Command.{kindNumbered, proofSize, broughtPage};
 ghost use Rattle.machine.specs.Question.{question2, question4, question5, question6, passes, firstNo};
 ghost use Rattle.arguments.specs.ArgumentQuestions.{argumentQuestions};
 use lockpage::Entry;
 use machine::Kind;
 
 // Question 2.
-pub(crate) fn disk_fits(memory: &[u8], disk: &[u8]) -> bool
+pub fn disk_fits(memory: &[u8], disk: &[u8]) -> bool
     requires { ⌜ length (now memory) ≡ memorySize present ⌝ }
     ensures { λ r. ⌜ r ≡ passes (question2 present (now (memory .entry)) (now (disk .entry))) ⌝ }
 {
@@ -25,7 +25,7 @@ pub(crate) fn disk_fits(memory: &[u8], disk: &[u8]) -> bool
 }
 
 // Question 4.
-pub(crate) fn is_timely(memory: &[u8], time: u32) -> bool
+pub fn is_timely(memory: &[u8], time: u32) -> bool
     requires { ⌜ length (now memory) ≡ memorySize present ⌝ }
     ensures { λ r. ⌜ r ≡ passes (question4 present (now (memory .entry)) time) ⌝ }
 {
@@ -66,11 +66,13 @@ fn is_sized(k: Kind, content: &[u8], proof: &[u8], answer: &[u8]) -> bool
     answer.len() == tags::ANSWER_SIZE
 }
 
-// The number of the first of them that says no, or 0. All are answered first: each costs a few comparisons.
+// The number of the first of them that says no, or 0. The kind is found anew for question 5: a compiler makes one jump
+// of both.
 pub fn refusal(
     memory: &[u8],
     disk: &[u8],
-    k: Kind,
+    kind: u32,
+    value: u32,
     block: u32,
     time: u32,
     content: &[u8],
@@ -78,27 +80,23 @@ pub fn refusal(
     answer: &[u8],
 ) -> u32
     requires { ⌜ length (now memory) ≡ memorySize present ⌝ }
-    ensures { λ r. ⌜ r ≡ firstNo (argumentQuestions present k (now (memory .entry)) (now (disk .entry)) block time
+    ensures { λ r. ⌜ r ≡ firstNo (argumentQuestions present (kindNumbered kind value) (now (memory .entry)) (now (disk .entry)) block time
         (now (content .entry)) (now (proof .entry)) (now (answer .entry))) ⌝ }
 {
-    let fits = disk_fits(memory, disk);
-    let known = kinds::is_known(k);
-    let timely = is_timely(memory, time);
-    let inside = is_inside(k, memory::groups(memory), block);
-    let sized = is_sized(k, content, proof, answer);
-    if !fits {
+    if !disk_fits(memory, disk) {
         return machine::DISK_SIZE_WRONG;
     }
-    if !known {
+    if !kinds::is_known(kinds::kind_numbered(kind, value)) {
         return machine::KIND_UNKNOWN;
     }
-    if !timely {
+    if !is_timely(memory, time) {
         return machine::TIME_OUT_OF_RANGE;
     }
-    if !inside {
+    let k = kinds::kind_numbered(kind, value);
+    if !is_inside(k, memory::groups(memory), block) {
         return machine::ADDRESS_OUT_OF_RANGE;
     }
-    if !sized {
+    if !is_sized(k, content, proof, answer) {
         return machine::LENGTH_WRONG;
     }
     machine::ACCEPTED

@@ -9,21 +9,23 @@ use lib.ListN.{length}
 use Rattle.lockpage.specs.Geometry.{Geometry, Proper}
 use Rattle.addressing.specs.Map.{dataBlocks}
 use Rattle.memory.specs.Memory.{groups}
-use Rattle.validity.proofs.ValidLaw.{Valid, facts}
 use Rattle.machine.specs.Command.{Box}
-use Rattle.machine.specs.Question.{Question, Put, question1, question2, question4, passes, firstNo, AllYes}
+use Rattle.machine.specs.Question.{Question, Put, question1, question2, question4, passes, firstNo}
 use Rattle.machine.specs.Query.{Query, numberCount, numbers, shownSize, question12, listQuestion5, listQuestion6, queryRefusal}
-use Rattle.machine.proofs.QuestionLaw.{numberedTo, accepted-yes, passes-on, ends, says-no, goes-on}
+use Rattle.machine.proofs.QuestionLaw.{says-no, goes-on}
 use Rattle.machine.proofs.QueryLaw.{fromSixth, fromFifth}
 
 -- γ is the box's geometry
 module _ (γ : Geometry) (s : Box) (q : Query) where
-  -- what every call is asked, and what is left behind it
-  abbrev pub ofBox : List Question
-  ofBox = question1 γ (s .memory) ∷ question2 γ (s .memory) (s .disk) ∷ question4 γ (s .memory) (q .now) ∷ []
-
+  -- the questions behind 4, 2 and 1
   abbrev pub left4 : List Question
   left4 = question12 (q .blocks) ∷ fromFifth γ s q
+
+  abbrev pub left2 : List Question
+  left2 = question4 γ (s .memory) (q .now) ∷ left4
+
+  abbrev pub left1 : List Question
+  left1 = question2 γ (s .memory) (s .disk) ∷ left2
 
 -- γ is any proper geometry
 module _ {γ : Geometry} (σ : Proper γ) (s : Box) (q : Query) where
@@ -31,23 +33,12 @@ module _ {γ : Geometry} (σ : Proper γ) (s : Box) (q : Query) where
   abbrev pub Left : List Question → Type 0
   Left later = firstNo later ≡ queryRefusal γ s q
 
-  -- one of the first three
-  pub box-refused : (n : ℕ) → n ≡ firstNo (ofBox γ s q) → (n ≡ 0 → ⊥) → n ≡ queryRefusal γ s q
+  -- before the first
+  pub all-left : Left (question1 γ (s .memory) ∷ left1 γ s q)
   unfolding queryRefusal
-  box-refused n e d = e ∙ sym (ends (ofBox γ s q) (left4 γ s q) (λ z. d (e ∙ z)))
+  all-left = refl
 
-  box-yes : (n : ℕ) → n ≡ firstNo (ofBox γ s q) → n ≡ 0 → AllYes (ofBox γ s q)
-  unfolding numberedTo
-  box-yes n e z = accepted-yes 4 (ofBox γ s q) refl (sym e ∙ z)
-
-  pub box-valid : (n : ℕ) → n ≡ firstNo (ofBox γ s q) → n ≡ 0 → Valid γ (s .memory)
-  box-valid n e z = facts σ (s .memory) (box-yes n e z .0)
-
-  pub box-left : (n : ℕ) → n ≡ firstNo (ofBox γ s q) → n ≡ 0 → Left (left4 γ s q)
-  unfolding queryRefusal
-  box-left n e z = sym (passes-on (ofBox γ s q) (left4 γ s q) (box-yes n e z))
-
-  -- one of the others, of number n
+  -- one of them, of number n
   pub refused : (n : ℕ) (answer : Bool) (later : List Question) (r : Bool) → Left (Put n answer ∷ later) → r ≡ answer → not r ≡ true
       → n ≡ queryRefusal γ s q
   refused n answer later r left e f = says-no n (Put n answer) later r refl e f ∙ left

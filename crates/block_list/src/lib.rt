@@ -64,13 +64,19 @@ fn all_below(blocks: &[u8], limit: u32) -> bool
     below
 }
 
-// The number of the first question that says no to a query, or 0. They are, in order, 1, 2, 4, 12, 5 and 6.
+// The number of the first question that says no to a query, or 0. They are, in order, 1, 2, 4, 12, 5 and 6. The first three are asked here and
+// not by arguments::box_questions, so that they are compiled in their place.
 pub fn refusal(memory: &[u8], disk: &[u8], blocks: &[u8], time: u32, answer: &[u8]) -> u32
     ensures { λ r. ⌜ r ≡ queryRefusal present (boxAt (memory .entry) (disk .entry)) (queryAt (blocks .entry) time (answer .entry)) ⌝ }
 {
-    let number = arguments::box_questions::refusal(memory, disk, time);
-    if number != machine::ACCEPTED {
-        return number;
+    if !validity::valid(memory) {
+        return machine::MEMORY_INVALID;
+    }
+    if !arguments::disk_fits(memory, disk) {
+        return machine::DISK_SIZE_WRONG;
+    }
+    if !arguments::is_timely(memory, time) {
+        return machine::TIME_OUT_OF_RANGE;
     }
     if !is_list(blocks) {
         return machine::LIST_SIZE_WRONG;

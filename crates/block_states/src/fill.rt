@@ -44,7 +44,7 @@ fn answer_groups(
     disk: &[u8],
     blocks: &[u8],
     time: u32,
-    first: &[usize],
+    first: &[u16],
     next: &[u8],
     named: &[u8],
     groups: usize,
@@ -60,7 +60,14 @@ fn answer_groups(
     while k < groups {
         let group = named[k];
         pages += current_page::fetch(memory, disk, group as u32, &mut page);
-        answer_group(&page, blocks, next, first[group as usize], time, answer);
+        answer_group(
+            &page,
+            blocks,
+            next,
+            first[group as usize] as usize,
+            time,
+            answer,
+        );
         k += 1;
     }
     pages
@@ -72,7 +79,7 @@ pub(crate) fn fill(memory: &[u8], disk: &[u8], blocks: &[u8], time: u32, answer:
     ensures { λ r. ⌜ (r ≡ pagesRead present (numbers (now (blocks .entry))))
         × (now (answer .exit) ≡ shownStates present (boxAt (memory .entry) (disk .entry)) time (numbers (now (blocks .entry)))) ⌝ }
 {
-    let mut first = [MOST_NUMBERS; layout::MOST_GROUPS as usize];
+    let mut first = [MOST_NUMBERS as u16; layout::MOST_GROUPS as usize];
     let mut next = [0u8; MOST_NUMBERS];
     let mut named = [0u8; MOST_NUMBERS];
     let groups = links::link(blocks, &mut first, &mut next, &mut named);

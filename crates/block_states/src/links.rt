@@ -7,7 +7,7 @@ use block_list::MOST_NUMBERS;
 
 // Links the numbers, from the last to the first: the first number of each group, the next one behind each number, and the groups
 // named. Where there is no number, MOST_NUMBERS stands for it. Answers how many groups are named.
-pub(crate) fn link(blocks: &[u8], first: &mut [usize], next: &mut [u8], named: &mut [u8]) -> usize
+pub(crate) fn link(blocks: &[u8], first: &mut [u16], next: &mut [u8], named: &mut [u8]) -> usize
     requires { ⌜ LinkReady present (now blocks) (now first) (now next) (now named) ⌝ }
     ensures { λ r. ⌜ Linked (groupNamed present (now (blocks .entry))) (present .mostGroups) 0 (numberCount (now (blocks .entry)))
         (now (first .exit)) (now (next .exit)) (now (named .exit)) r ⌝ }
@@ -17,12 +17,12 @@ pub(crate) fn link(blocks: &[u8], first: &mut [usize], next: &mut [u8], named: &
     while i > 0 {
         i -= 1;
         let group = addressing::group_of(block_list::number(blocks, i)) as usize;
-        if first[group] == MOST_NUMBERS {
+        if first[group] as usize == MOST_NUMBERS {
             named[groups] = group as u8;
             groups += 1;
         }
         next[i] = first[group] as u8;
-        first[group] = i;
+        first[group] = i as u16;
     }
     groups
 }

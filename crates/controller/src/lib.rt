@@ -108,10 +108,20 @@ pub fn command(
         ≡ step present (boxAt (memory .entry) (disk .entry))
         (commandAt kind block time value (content .entry) (proof .entry) (answer .entry)) ⌝ }
 {
-    let k = arguments::kinds::kind_numbered(kind, value);
-    let number = questions::refusal(memory, disk, k, block, time, content, proof, answer);
+    let number = questions::refusal(
+        memory,
+        disk,
+        kind,
+        value,
+        block,
+        time,
+        content,
+        proof,
+        answer,
+    );
     if number != machine::ACCEPTED {
         return number;
     }
+    let k = arguments::kinds::kind_numbered(kind, value);
     carry_out(memory, disk, k, block, time, content, proof, answer)
 }

@@ -34,9 +34,7 @@ pub fn is_zero(memory: &[u8]) -> bool
     requires { ⌜ length (now memory) ≡ memorySize present ⌝ }
     ensures { λ r. ⌜ r ≡ equal (heldPage present (now (memory .entry))) (repeated (pageSize present) 0) ⌝ }
 {
-    let zeros = [0u8; lockpage::PAGE_SIZE];
-    let end = layout::PAGE_START + lockpage::PAGE_SIZE;
-    octets::equal(&memory[layout::PAGE_START..end], &zeros)
+    octets::filled(memory, layout::PAGE_START, lockpage::PAGE_SIZE, 0)
 }
 
 // Holds a group's page, which has had that many updates.

@@ -6,6 +6,7 @@ use native.Mathlib.Omega.{arith}
 use lib.ListN.{length}
 use Rattle.octets.specs.Part.{part, replaced, repeated}
 use Rattle.octets.specs.Number.{numberAt, withNumber}
+use Rattle.octets.proofs.PartLaw.{part-all}
 use Rattle.octets.proofs.RepeatedLaw.{repeated-length}
 use Rattle.octets.proofs.ReplacedLaw.{replaced-all, part-copied, all-copied}
 use Rattle.lockpage.specs.Geometry.{Geometry, Proper}
@@ -31,6 +32,15 @@ module _ {γ : Geometry} (σ : Proper γ) where
     pub salt-stored : (s : List ℕ) → length s ≡ saltSize → r ≡ replaced m saltStart (part s 0 saltSize) → r ≡ withSalt m s
     unfolding withSalt
     salt-stored s l e = all-copied m s r saltStart saltSize l e
+
+  -- a salt that goes by a buffer
+  pub salt-buffered : (m b s buffer r : List ℕ) → length m ≡ memorySize γ → length b ≡ saltSize → length s ≡ saltSize
+      → buffer ≡ replaced b 0 (part s 0 saltSize) → r ≡ replaced m saltStart (part buffer 0 saltSize) → r ≡ withSalt m s
+  salt-buffered m b s buffer r size lb ls eb er =
+      let all : part s 0 saltSize ≡ s = part-all s saltSize (omega (arith, ls)) in
+      let same : buffer ≡ s =
+      eb ∙ ap (replaced b 0) all ∙ replaced-all b s (ls ∙ sym lb) in
+      salt-stored m r size buffer (ap length same ∙ ls) er ∙ ap (withSalt m) same
 
   -- the memory of formatting, stored field after field
   pub format-stored : (m a b c r : List ℕ) (g : ℕ) (s : List ℕ) → length m ≡ memorySize γ → a ≡ replaced m 0 (repeated (memorySize γ) 0)

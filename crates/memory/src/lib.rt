@@ -1,4 +1,4 @@
-// The controller memory: 616 bytes that the caller lends. Its fields but the held page, and the memory of formatting. The
+// The controller memory: 808 bytes that the caller lends. Its fields but the held page, and the memory of formatting. The
 // contracts cite specs/.
 ghost use mathlib.Core.Path.{_≡_};
 ghost use lib.ListN.{length};
@@ -100,12 +100,14 @@ pub fn has_salt(memory: &[u8], salt: &[u8]) -> bool
     octets::equal(&memory[layout::SALT_START..end], salt)
 }
 
-// Sets the salt.
+// Sets the salt. It goes by a buffer: the compiler does not know that salt and memory are apart, and would copy byte by byte.
 pub fn set_salt(memory: &mut [u8], salt: &[u8])
     requires { ⌜ (length (now memory) ≡ memorySize present) × (length (now salt) ≡ saltSize) ⌝ }
     ensures { λ _. ⌜ now (memory .exit) ≡ withSalt (now (memory .entry)) (now (salt .entry)) ⌝ }
 {
-    octets::copy(salt, 0, memory, layout::SALT_START, layout::SALT_SIZE);
+    let mut bytes = [0u8; layout::SALT_SIZE];
+    octets::copy(salt, 0, &mut bytes, 0, layout::SALT_SIZE);
+    octets::copy(&bytes, 0, memory, layout::SALT_START, layout::SALT_SIZE);
 }
 
 // Makes the memory that of a box just formatted.

@@ -7,6 +7,7 @@ ghost use mathlib.Core.List.{[], _∷_};
 ghost use lib.ListN.{length};
 ghost use Rattle.lockpage.specs.Geometry.{present};
 ghost use Rattle.memory.specs.Layout.{memorySize};
+ghost use Rattle.machine.specs.Command.{kindNumbered};
 ghost use Rattle.machine.specs.Call.{boxAt, commandAt};
 ghost use Rattle.machine.specs.Question.{question11, firstNo};
 ghost use Rattle.questions.specs.FirstQuestions.{firstQuestions};
@@ -23,23 +24,33 @@ pub fn salt_refusal(memory: &[u8], content: &[u8]) -> u32
     machine::ACCEPTED
 }
 
-// The number of the first of questions 1 to 6 that says no to a command of kind k, or 0. Of the command's own kind and value they look
-// only at k.
+// The number of the first of questions 1 to 6 that says no to a command, or 0.
 pub fn refusal(
     memory: &[u8],
     disk: &[u8],
-    k: Kind,
+    kind: u32,
+    value: u32,
     block: u32,
     time: u32,
     content: &[u8],
     proof: &[u8],
     answer: &[u8],
 ) -> u32
-    ensures { λ r. ⌜ r ≡ firstNo (firstQuestions present k (boxAt (memory .entry) (disk .entry))
+    ensures { λ r. ⌜ r ≡ firstNo (firstQuestions present (kindNumbered kind value) (boxAt (memory .entry) (disk .entry))
         (commandAt 0 block time 0 (content .entry) (proof .entry) (answer .entry))) ⌝ }
 {
     if !validity::valid(memory) {
         return machine::MEMORY_INVALID;
     }
-    arguments::refusal(memory, disk, k, block, time, content, proof, answer)
+    arguments::refusal(
+        memory,
+        disk,
+        kind,
+        value,
+        block,
+        time,
+        content,
+        proof,
+        answer,
+    )
 }

@@ -1,22 +1,23 @@
 -- The check of validity as the code makes it: a clause that fails, and what is left to test once the others are passed.
 -- Assumes nothing.
-use mathlib.Core.Path.{_≡_, ap, ap₂, sym, _∙_}
+use mathlib.Core.Path.{_≡_, ap, ap₂, sym, subst, _∙_}
 use mathlib.Core.Bool.{Bool, true, false, not, false≢true}
 use mathlib.Mathlib.Data.Bool.Basic.{eq-true-of-not-eq-false', eq-false-of-not-eq-true'}
 use mathlib.Core.List.{List}
-use Prim.Native.Nat.{ℕ, _*_, _-_, _≤_, _<_}
+use Prim.Native.Nat.{ℕ, _+_, _-_, _≤_, _<_}
 use native.Mathlib.Omega.{arith}
 use borrow.Author.Tests.{leb-true, le-leb}
 use lib.Dec.{leb}
 use lib.ListN.{length}
 use Rattle.octets.specs.Part.{part, repeated, equal}
-use Rattle.octets.proofs.EqualLaw.{equal-true, equal-yes}
+use Rattle.octets.proofs.RepeatedLaw.{repeated-within, repeated-joined}
+use Rattle.octets.proofs.EqualLaw.{equal-true, equal-yes, equal-no, equal-iff}
 use Rattle.lockpage.specs.Geometry.{Geometry, Proper}
 use Rattle.lockpage.specs.Size.{pageSize}
 use Rattle.lockpage.specs.Update.{latestTime}
 use Rattle.memory.specs.Layout.{memorySize, countStart, timeStart, reservedStart, reservedSize}
 use Rattle.memory.specs.Memory.{count, lastTime, groups, held, none, mostUpdates, updateCount, heldPage}
-use Rattle.validity.specs.Valid.{countLimit, validHeld, valid}
+use Rattle.validity.specs.Valid.{countLimit, zeroAt, validHeld, valid}
 use Rattle.validity.proofs.ValidLaw.{UnusedFrom, ReservedZero, held-facts, held-valid, held-decided, held-invalid, decided, invalid}
 
 -- a comparison that says no, and one that says yes
@@ -25,6 +26,41 @@ not-equal r a b e n q = false≢true (sym (eq-false-of-not-eq-true' n) ∙ e ∙
 
 are-equal : (r : Bool) (a b : List ℕ) → r ≡ equal a b → not r ≡ false → a ≡ b
 are-equal r a b e n = equal-true a b (sym e ∙ eq-true-of-not-eq-false' n)
+
+-- ---- zeros in pieces: n elements from place a on, of which k from place b on are compared first
+
+module _ (m : List ℕ) (a n : ℕ) (r : Bool) (b k : ℕ) (place : b ≡ a) (e : r ≡ zeroAt m b k) where
+  -- another is among them
+  pub piece-used : k ≤ n → not r ≡ true → false ≡ zeroAt m a n
+  piece-used h t =
+      let here : a + 0 ≡ b = omega arith in
+      sym (equal-no (part m a n) (repeated n 0)
+      (λ q. not-equal r (part m b k) (repeated k 0) e t
+      (ap (λ (x : ℕ). part m x k) (sym here) ∙ repeated-within m a n 0 k 0 (omega arith) q)))
+
+  -- they are all
+  pub piece-all : k ≡ n → r ≡ zeroAt m a n
+  piece-all h = e ∙ ap₂ (zeroAt m) place h
+
+  -- they are zeros, and those from place c on decide
+  module _ (t : not r ≡ false) (c l : ℕ) (behind : a ≤ c) (near : c ≤ a + k) (to-end : c + l ≡ a + n) where
+    offset : a + (c - a) ≡ c
+    offset = omega arith
+
+    total : c - a + l ≡ n
+    total = omega arith
+
+    joined : part m c l ≡ repeated l 0 → part m a n ≡ repeated n 0
+    joined q =
+        let front : part m a k ≡ repeated k 0 = ap (λ (x : ℕ). part m x k) (sym place) ∙ are-equal r (part m b k) (repeated k 0) e t in
+        subst (λ (x : ℕ). part m a x ≡ repeated x 0) total
+        (repeated-joined m a k (c - a) l 0 (omega arith) front (ap (λ (x : ℕ). part m x l) offset ∙ q))
+
+    last-too : part m a n ≡ repeated n 0 → part m c l ≡ repeated l 0
+    last-too q = ap (λ (x : ℕ). part m x l) (sym offset) ∙ repeated-within m a n (c - a) l 0 (omega arith) q
+
+    pub last-decides : (s : Bool) → s ≡ zeroAt m c l → s ≡ zeroAt m a n
+    last-decides s es = es ∙ equal-iff (part m c l) (repeated l 0) (part m a n) (repeated n 0) joined last-too
 
 -- γ is the box's geometry
 module _ (γ : Geometry) where
@@ -39,11 +75,10 @@ module _ (γ : Geometry) where
 
 -- γ is any proper geometry
 module _ {γ : Geometry} (σ : Proper γ) where
-  -- the counts that no group has, n words from place at on
-  module _ (m : List ℕ) (r : Bool) (at n : ℕ) (place : at ≡ countStart (groups γ m)) (size : 4 * n ≡ timeStart γ - countStart (groups γ m))
-      (e : r ≡ equal (part m at (4 * n)) (repeated (4 * n) 0)) where
-    compared : r ≡ equal (part m (countStart (groups γ m)) (timeStart γ - countStart (groups γ m))) (repeated (timeStart γ - countStart (groups γ m)) 0)
-    compared = e ∙ ap₂ (λ (f k : ℕ). equal (part m f k) (repeated k 0)) place size
+  -- the counts that no group has, from group g on
+  module _ (m : List ℕ) (r : Bool) (g : ℕ) (read : g ≡ groups γ m) (e : r ≡ zeroAt m (countStart g) (timeStart γ - countStart g)) where
+    compared : r ≡ zeroAt m (countStart (groups γ m)) (timeStart γ - countStart (groups γ m))
+    compared = e ∙ ap (λ (h : ℕ). zeroAt m (countStart h) (timeStart γ - countStart h)) read
 
     pub counts-used : not r ≡ true → false ≡ valid γ m
     counts-used t = invalid σ m (λ v. not-equal r _ _ compared t (v .unused))

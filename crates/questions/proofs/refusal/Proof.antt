@@ -4,7 +4,8 @@ use mathlib.Core.Path.{sym, _∙_}
 use mathlib.Mathlib.Data.Bool.Basic.{eq-true-of-not-eq-false'}
 use Rattle.lockpage.proofs.GeometryLaw.{present-proper as σ}
 use Rattle.validity.proofs.ValidLaw.{facts}
-use Rattle.machine.specs.Command.{Box, Command, boxOf, commandOf}
+use Rattle.machine.specs.declared.Kind.{Kind}
+use Rattle.machine.specs.Command.{Box, Command, boxOf, commandOf, kindNumbered}
 use Rattle.questions.proofs.RefusalLaw.{invalid-refused, arguments-answer}
 use Rattle.questions.proofs.refusal.Statement.{statement}
 use Rattle.questions.proofs.refusal.Tie as tie
@@ -22,10 +23,13 @@ given c =
     let x = start c .args in
     commandOf 0 (x .block) (x .time) 0 (x .content .now) (x .proof .now) (x .answer .now)
 
+abbrev kind : tie.After-valid → Kind
+kind c = kindNumbered (start c .args .kind) (start c .args .value)
+
 invalid : tie.Need-returns
 invalid c =
     let asked = c .before in
-    invalid-refused σ (start asked .args .k) (box asked) (given asked) _ (asked .valid .ensures) (c .if1 .taken)
+    invalid-refused σ (kind asked) (box asked) (given asked) _ (asked .valid .ensures) (c .if1 .taken)
 
 -- the memory's length, once question 1 has yes
 refusal-requires : tie.Need-refusal-requires
@@ -35,7 +39,7 @@ arguments : tie.Need-returns-2
 arguments c =
     let passed = c .before in
     let asked = passed .before in
-    arguments-answer σ (start asked .args .k) (box asked) (given asked) _ (asked .valid .ensures) (passed .if1 .left) _ (c .refusal .ensures)
+    arguments-answer σ (kind asked) (box asked) (given asked) _ (asked .valid .ensures) (passed .if1 .left) _ (c .refusal .ensures)
 
 pub refusal-spec : {M : Type 1} → statement M
 refusal-spec = tie.close (tie.spec (λ c κs. search needs) invalid refusal-requires arguments)

@@ -8,6 +8,7 @@ use lib.ListN.{getD}
 use Rattle.lockpage.specs.Geometry.{present}
 use Rattle.lockpage.proofs.GeometryLaw.{present-proper as σ}
 use Rattle.machine.specs.Command.{Box, boxOf}
+use Rattle.block_states.proofs.LinkLaw.{linked-head}
 use Rattle.block_states.proofs.GroupsLaw.{Filled, count-few, group-most, fetch-ready, group-ready, filled-step, filled-start, filled-end}
 use Rattle.block_states.proofs.fill.answer_groups.Statement.{statement}
 use Rattle.block_states.proofs.fill.answer_groups.Tie as tie
@@ -83,6 +84,13 @@ shared-slice-read-answer-group c =
     let test = turn (c .before .before .before .before) in
     omega (arith, small test, start (test .before) .pre .links .heads-size)
 
+cast-answer-group-2 : tie.Need-cast-answer-group-2 Inv-loop μ-loop
+cast-answer-group-2 c =
+    let test = turn (c .before .before .before .before) in
+    let pre = start (test .before) .pre in
+    let most = linked-head _ _ _ _ _ _ _ _ (pre .links) (omega (arith, pre .filling .list .few)) _ (small test) in
+    search needs
+
 answer-group-requires : tie.Need-answer-group-requires Inv-loop μ-loop
 answer-group-requires c κs =
     let test = turn (fetched c .before) in
@@ -130,6 +138,7 @@ answer-groups-spec =
     cast-answer-group
     mul-answer-group
     shared-slice-read-answer-group
+    cast-answer-group-2
     answer-group-requires
     (λ c. search needs)
     (λ c. search needs)

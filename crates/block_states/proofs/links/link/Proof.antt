@@ -5,7 +5,7 @@ use mathlib.Core.Path.{_≡_, ap, sym, _∙_}
 use mathlib.Core.Logic.{inl, inr}
 use mathlib.Core.List.{List}
 use Prim.Native.Nat.{ℕ, _-_, _≤_, _<_}
-use lib.ListN.{length}
+use lib.ListN.{length, getD}
 use Rattle.octets.proofs.RepeatedLaw.{repeated-length}
 use Rattle.lockpage.specs.Geometry.{present}
 use Rattle.addressing.specs.Map.{groupOf}
@@ -50,6 +50,15 @@ group-known c =
     let test = c .before .before in
     start (test .before) .pre .list .range (place (test .before)) (inside test)
 
+-- the first place of the group so far is no more than the sign for none
+head-most : (c : tie.After-group-of Inv-loop μ-loop)
+    → getD (c .before .before .before .loop .first) (c .group-of .result) 0 ≤ mostNumbers
+head-most c =
+    let loop = c .before .before .before in
+    let inv = loop .loop .inv in
+    linked-head _ _ _ _ _ _ _ _ (inv .1) (omega (arith, inv .0, start loop .pre .list .few)) (c .group-of .result)
+    (omega (arith, group-is c, group-known c))
+
 loop-holds : tie.Need-loop-holds Inv-loop μ-loop
 loop-holds c =
     let start = c .before .before .before .before .before in
@@ -70,6 +79,11 @@ slice-read-if1 c =
     let grouped = c .before in
     let loop = grouped .before .before .before in
     omega (arith, group-is grouped, group-known grouped, loop .loop .inv .1 .heads-size)
+
+cast-if1 : tie.Need-cast-if1 Inv-loop μ-loop
+cast-if1 c =
+    let most = head-most (c .before) in
+    search needs
 
 cast-named : tie.Need-cast-named Inv-loop μ-loop
 cast-named c =
@@ -106,12 +120,14 @@ slice-read-next c =
 
 cast-next : tie.Need-cast-next Inv-loop μ-loop
 cast-next c =
-    let grouped = c .before .before .before in
-    let loop = grouped .before .before .before in
-    let inv = loop .loop .inv in
-    let most =
-    linked-head _ _ _ _ _ _ _ _ (inv .1) (omega (arith, inv .0, start loop .pre .list .few)) (grouped .group-of .result)
-    (omega (arith, group-is grouped, group-known grouped)) in
+    let most = head-most (c .before .before .before) in
+    search needs
+
+cast-first : tie.Need-cast-first Inv-loop μ-loop
+cast-first c =
+    let test = c .before .before .before .before .before in
+    let place = inside test in
+    let few = start (test .before) .pre .list .few in
     search needs
 
 mul-first : tie.Need-mul-first Inv-loop μ-loop
@@ -164,6 +180,7 @@ link-spec =
     (λ c. search needs)
     mul-if1
     slice-read-if1
+    cast-if1
     cast-named
     slice-write-named
     add-groups
@@ -171,6 +188,7 @@ link-spec =
     slice-read-next
     cast-next
     (λ c. search needs)
+    cast-first
     mul-first
     slice-write-first
     (λ c. search needs)
