@@ -1,0 +1,1 @@
+// The migration as definitions, specs/, and theorems about them, proofs/: no code.
