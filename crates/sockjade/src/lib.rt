@@ -1,8 +1,9 @@
 // The functions that a C service calls. A slice crosses as a pointer and a length. No call has a precondition, and each
 // contract fixes the number answered and every byte of each buffer: the digest's by specs/, the version
-// store's by the definitions of versions_bytes, recovery's by those of recovery_machine, the others by those of machine.
+// store's by the definitions of versions_bytes, recovery's by those of recovery_machine, the migration's by those of migration_machine, the
+// others by those of machine.
 ghost use mathlib.Core.Path.{_≡_};
-ghost use Rattle.lockpage.specs.Geometry.{present};
+ghost use Rattle.lockpage.specs.Geometry.{base, present};
 ghost use Rattle.machine.specs.Step.{step};
 ghost use Rattle.machine.specs.Format.{format};
 ghost use Rattle.machine.specs.Query.{queryStep};
@@ -11,6 +12,7 @@ ghost use Rattle.memory.specs.Memory.{groups};
 ghost use Rattle.versions_machine.specs.Allocation.{firstBlock, wholeBox};
 ghost use Rattle.versions_bytes.specs.Call.{locatedOf, calledAt, startedAt, startBytes, lookup, putBytes, flushBytes};
 ghost use Rattle.recovery_machine.specs.Recover.{recover, recoveryAt};
+ghost use Rattle.migration_machine.specs.Migrate.{migrate, migrationAt};
 ghost use Rattle.sockjade.specs.Digest.{digestOutcome, digestCall};
 
 const LONGEST_INPUT: usize = 65536;
@@ -165,4 +167,13 @@ pub extern "C" fn sockjade_format(
         ≡ format present (boxAt (memory .entry) (disk .entry)) groups (now (salt .entry)) ⌝ }
 {
     formatter::format(memory, disk, groups, salt)
+}
+
+// Turns the memory of an old box, of 16 groups at most, into that of a present one: 0, with the memory as document 02 has it; where the
+// number is not 0, no byte changed.
+#[no_mangle]
+pub extern "C" fn sockjade_migrate(old: &[u8], memory: &mut [u8]) -> u32
+    ensures { λ r. ⌜ migrationAt r (memory .exit) ≡ migrate base (present .mostGroups) (now (old .entry)) (now (memory .entry)) ⌝ }
+{
+    migration::migrate(old, memory)
 }

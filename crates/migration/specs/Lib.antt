@@ -1,0 +1,2 @@
+-- What the functions of migration ask for.
+pub mod Ready
