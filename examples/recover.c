@@ -1,8 +1,8 @@
 /* The office's tool after an intrusion: `recover FILE X FOLDER [NOW]` finds each part of a version store as of the time X in a box's
  * file, and stores its content in a new folder: part-000 to part-255, and parts.txt, a line for each with its block and time of write.
  *
- * FILE is the box's, as examples/service keeps it: the memory, then the disk of 1 to 16 groups. It is only read, so a copy serves, and
- * the box may go on; what the tool asks the controller, it asks on what it has read.
+ * FILE is the box's, as examples/service keeps it: the memory, then the disk of 1 to 64 groups. It is only read, so a copy serves, and
+ * the box may go on; what the tool asks the controller, it asks on what it has read. The memory of an old box's file is migrated there.
  *
  * X is a time up to which the office trusts what was stored, and at which it had flushed and synced.
  *
@@ -16,11 +16,11 @@
 #include <sys/stat.h>
 #include "sockjade.h"
 
-enum { LAST_TIME = 96, LONGEST_PATH = 4096, LARGEST = SOCKJADE_MEMORY_SIZE + SOCKJADE_MOST_GROUPS * SOCKJADE_GROUP_SIZE };
+enum { LAST_TIME = 288, LONGEST_PATH = 4096, LARGEST = SOCKJADE_MEMORY_SIZE + SOCKJADE_MOST_GROUPS * SOCKJADE_GROUP_SIZE };
 
 static uint8_t box[LARGEST + 1]; /* the file; a byte more than the largest box has */
+static uint8_t memory[SOCKJADE_MEMORY_SIZE], *disk;
 static size_t disk_len;
-static uint8_t *const memory = box, *const disk = box + SOCKJADE_MEMORY_SIZE;
 static uint8_t answer[SOCKJADE_ANSWER_SIZE];
 
 static _Noreturn void fail(const char *what) {
@@ -47,18 +47,6 @@ static uint32_t parse_time(const char *word) {
     return (uint32_t)time;
 }
 
-static void load(const char *path) {
-    FILE *file = fopen(path, "rb");
-    if (file == NULL)
-        fail(path);
-    size_t len = fread(box, 1, sizeof box, file);
-    if (ferror(file) || fclose(file) != 0)
-        fail(path);
-    if (len <= SOCKJADE_MEMORY_SIZE || len > LARGEST || (len - SOCKJADE_MEMORY_SIZE) % SOCKJADE_GROUP_SIZE != 0)
-        complain(path, "not of the size of a box");
-    disk_len = len - SOCKJADE_MEMORY_SIZE;
-}
-
 /* The number is SOCKJADE_ACCEPTED, or the tool ends. */
 static void accept(const char *path, uint32_t number) {
     static const char *const names[] = {[SOCKJADE_MEMORY_INVALID] = "memory invalid", [SOCKJADE_DISK_SIZE_WRONG] = "disk size wrong",
@@ -70,10 +58,34 @@ static void accept(const char *path, uint32_t number) {
     exit(EXIT_FAILURE);
 }
 
+/* Whether a file of so many bytes has a memory of this length, and then whole groups. */
+static int has_groups(size_t len, size_t memory_len) {
+    return len > memory_len && (len - memory_len) % SOCKJADE_GROUP_SIZE == 0;
+}
+
+static void load(const char *path) {
+    FILE *file = fopen(path, "rb");
+    if (file == NULL)
+        fail(path);
+    size_t len = fread(box, 1, sizeof box, file);
+    if (ferror(file) || fclose(file) != 0)
+        fail(path);
+    int old = has_groups(len, SOCKJADE_OLD_MEMORY_SIZE);
+    if (len > LARGEST || !(old || has_groups(len, SOCKJADE_MEMORY_SIZE)))
+        complain(path, "not of the size of a box");
+    if (old)
+        accept(path, sockjade_migrate(box, SOCKJADE_OLD_MEMORY_SIZE, memory, sizeof memory));
+    else
+        memcpy(memory, box, sizeof memory);
+    size_t memory_len = old ? SOCKJADE_OLD_MEMORY_SIZE : SOCKJADE_MEMORY_SIZE;
+    disk = box + memory_len;
+    disk_len = len - memory_len;
+}
+
 /* A command without data and proof, on what was read: its answer is in `answer`. */
 static void command(const char *path, uint32_t kind, uint32_t block, uint32_t now) {
     const uint8_t none[1] = {0};
-    accept(path, sockjade_command(memory, SOCKJADE_MEMORY_SIZE, disk, disk_len, kind, block, now, 0, none, 0, none, 0, answer,
+    accept(path, sockjade_command(memory, sizeof memory, disk, disk_len, kind, block, now, 0, none, 0, none, 0, answer,
                                   sizeof answer));
 }
 
@@ -135,7 +147,7 @@ int main(int argc, char **argv) {
     uint32_t point = parse_time(argv[2]);
     load(source);
     uint32_t now = argc == 5 ? parse_time(argv[4]) : little_endian(memory + LAST_TIME);
-    accept(source, sockjade_recover(memory, SOCKJADE_MEMORY_SIZE, disk, disk_len, point, now, found, sizeof found));
+    accept(source, sockjade_recover(memory, sizeof memory, disk, disk_len, point, now, found, sizeof found));
     unsigned parts = store_parts(source, folder, found, now);
     printf("%s: %u parts as of %lu, by the clock at %lu\n", folder, parts, (unsigned long)point, (unsigned long)now);
     if (fflush(stdout) == 0)

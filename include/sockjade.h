@@ -22,12 +22,19 @@
  * 64th update to it since it came in. So a power cut between two commands loses at most the last SOCKJADE_MOST_UPDATES updates of
  * one group. examples/service/ is a model.
  *
- * The memory's bytes: 0 salt; 32 a freshness count of 4 bytes for each of 16 groups; 96 last time; 100 groups; 101 the held group, or
- * 255 for none; 102 the updates to the held page, 1 to SOCKJADE_MOST_UPDATES, or 0 for none; 103 zero; 104 the held page.
+ * The memory's bytes: 0 salt; 32 a freshness count of 4 bytes for each of 64 groups; 288 last time; 292 groups; 293 the held group, or
+ * 255 for none; 294 the updates to the held page, 1 to SOCKJADE_MOST_UPDATES, or 0 for none; 295 zero; 296 the held page.
  *
- * An operator's step: a memory from before byte 102 counted (document 02, Q-4) has 0 there, and with a page held it gets
- * SOCKJADE_MEMORY_INVALID. So every box is synced, by SOCKJADE_SYNC, before its service is linked with a library that counts; one that
- * was not is synced by the service of before.
+ * A box from before 64 groups (document 02, Q-7) has an old memory, with counts for 16 groups alone: 96 last time; 100 groups, 1 to 16;
+ * 101 the held group; 102 the updates; 103 zero; 104 the held page; SOCKJADE_OLD_MEMORY_SIZE bytes. Its disk is as it was.
+ *
+ * An operator's step: an old memory is migrated once, by sockjade_migrate, before the first command of this library. The new memory and
+ * the disk are stored, whole, and the old memory is not used again. Were it started again after the new one has run, old counts would
+ * be back, and old tags would be right again.
+ *
+ * Another, of boxes that are older still: an old memory from before byte 102 counted (document 02, Q-4) has 0 there, and with a page held
+ * the migration refuses it by SOCKJADE_MEMORY_INVALID. Such a box is first synced, by SOCKJADE_SYNC, by its old service; with no page held
+ * it is migrated as it is.
  */
 #ifndef SOCKJADE_H
 #define SOCKJADE_H
@@ -42,8 +49,9 @@ extern "C" {
 /* The numbers answered. */
 enum {
     SOCKJADE_ACCEPTED = 0,
-    SOCKJADE_MEMORY_INVALID = 1,       /* the memory is not 616 bytes, or not valid; a version store's state is not 1,536 bytes, or not
-                                        * valid; when formatting, the groups are not 1 to 16 */
+    SOCKJADE_MEMORY_INVALID = 1,       /* the memory is not 808 bytes, or not valid; a version store's state is not 1,536 bytes, or not
+                                        * valid; when formatting, the groups are not 1 to 64; of a migration, the old memory is not
+                                        * 616 bytes, or not valid, or the new one's buffer is not 808 bytes */
     SOCKJADE_DISK_SIZE_WRONG = 2,      /* the disk is not groups * 33,280 bytes */
     SOCKJADE_KIND_UNKNOWN = 3,         /* the kind is not 1 to 10 */
     SOCKJADE_TIME_OUT_OF_RANGE = 4,    /* now is before the last time, or above 2,147,483,647 */
@@ -83,7 +91,8 @@ enum {
 
 /* Sizes in bytes, and how many there are of something. Numbers of several bytes are little-endian. */
 enum {
-    SOCKJADE_MEMORY_SIZE = 616,
+    SOCKJADE_MEMORY_SIZE = 808,
+    SOCKJADE_OLD_MEMORY_SIZE = 616,    /* of a box from before 64 groups */
     SOCKJADE_GROUP_SIZE = 33280,       /* on the disk, for each group */
     SOCKJADE_BLOCK_SIZE = 512,
     SOCKJADE_PAGE_SIZE = 512,
@@ -97,7 +106,7 @@ enum {
     SOCKJADE_SHOWN_SIZE = 9,           /* answered for each number of a list: state, time left (signed, 8 bytes) */
     SOCKJADE_MOST_NUMBERS = 64,        /* in a list */
     SOCKJADE_MOST_UPDATES = 63,        /* to a held page: with one more it goes to the disk by itself */
-    SOCKJADE_MOST_GROUPS = 16,
+    SOCKJADE_MOST_GROUPS = 64,
     SOCKJADE_BLOCKS_PER_GROUP = 64,
     SOCKJADE_VERSIONS_SIZE = 1536,     /* of a version store's state */
     SOCKJADE_LAST_PART = 255,          /* parts are numbered from 0 */
@@ -179,6 +188,13 @@ uint32_t sockjade_recover(const uint8_t *memory, size_t memory_len, const uint8_
  * It touches no data block. Answers SOCKJADE_ACCEPTED, or 1, 2 or 6. */
 uint32_t sockjade_format(uint8_t *memory, size_t memory_len, uint8_t *disk, size_t disk_len, uint32_t groups,
                          const uint8_t *salt, size_t salt_len);
+
+/* Migrates the memory of an old box, of 1 to 16 groups: fills `memory` with the memory that goes on in its place. It has every field of the
+ * old one, a held page and its updates too, and counts of 0 for the groups that an old box cannot have. The old memory and the disk stay
+ * as they are, and so does a version store's state. Each later command then answers as it would have before: tags that were right are
+ * right, and a lock lasts as long. Answers SOCKJADE_ACCEPTED; or 1 where the old memory is not SOCKJADE_OLD_MEMORY_SIZE bytes or not valid
+ * as an old box's, or `memory` is not SOCKJADE_MEMORY_SIZE bytes. */
+uint32_t sockjade_migrate(const uint8_t *old, size_t old_len, uint8_t *memory, size_t memory_len);
 
 /* The BLAKE3 digest of the input. Answers SOCKJADE_ACCEPTED with the digest in out, or 6 where the input is longer than
  * SOCKJADE_LONGEST_INPUT or out_len is not SOCKJADE_DIGEST_SIZE. */

@@ -53,20 +53,34 @@ static void store(const struct box *box) {
     sync_folder(box);
 }
 
-/* Loads the box. Nobody else may write the file, which is a premise too: an older one that was put back, or a changed block, is
- * not noticed. */
-static void load(struct box *box) {
-    FILE *file = fopen(box->path, "rb");
-    if (file == NULL)
-        fail(box->path);
-    int whole = fread(box->memory, sizeof box->memory, 1, file) == 1 && fread(box->disk, sizeof box->disk, 1, file) == 1 &&
-                fgetc(file) == EOF;
+/* Reads the file whole: a memory of this length, then the disk. */
+static void read_file(FILE *file, struct box *box, uint8_t *memory, size_t memory_len) {
+    int whole = fread(memory, memory_len, 1, file) == 1 && fread(box->disk, sizeof box->disk, 1, file) == 1 && fgetc(file) == EOF;
     if (ferror(file) || fclose(file) != 0)
         fail(box->path);
     if (whole)
         return;
     fprintf(stderr, "%s: not of the size of a box of %d groups\n", box->path, GROUPS);
     exit(EXIT_FAILURE);
+}
+
+/* Loads the box; the memory of an old one is migrated, and answers the migration's number. It is not stored here: the restart that
+ * follows stores the box whole, and until then the file is the old one. Nobody else may write the file, which is a premise too: an older
+ * one that was put back, or a changed block, is not noticed. Nor is a copy of the old box's file: started again after the new box has run,
+ * it would bring old counts back, and pages of that time would match again. */
+static uint32_t load(struct box *box) {
+    uint8_t old[SOCKJADE_OLD_MEMORY_SIZE];
+    struct stat status;
+    FILE *file = fopen(box->path, "rb");
+    if (file == NULL || fstat(fileno(file), &status) != 0)
+        fail(box->path);
+    box->old = status.st_size == (off_t)(sizeof old + sizeof box->disk);
+    if (!box->old) {
+        read_file(file, box, box->memory, sizeof box->memory);
+        return SOCKJADE_ACCEPTED;
+    }
+    read_file(file, box, old, sizeof old);
+    return sockjade_migrate(old, sizeof old, box->memory, sizeof box->memory);
 }
 
 /* Any trouble but that there is no file ends the service, so that a box is never formatted over. */
@@ -151,8 +165,8 @@ uint32_t format_box(struct box *box) {
  * restart out where its whole memory outlasts the cut, as this one's does, in its file: the box is then as the last accepted
  * command left it, and a lock outlasts the cut from that command on. Here it is given, to play a box whose held page does not. */
 uint32_t start_box(struct box *box) {
-    load(box);
-    return give(box, (struct request){.kind = SOCKJADE_RESTART});
+    uint32_t number = load(box);
+    return number == SOCKJADE_ACCEPTED ? give(box, (struct request){.kind = SOCKJADE_RESTART}) : number;
 }
 
 uint32_t stop_box(struct box *box) {

@@ -14,6 +14,7 @@ enum { GROUPS = 2 };
 
 struct box {
     const char *path; /* the file: the memory, then the disk */
+    int old;          /* not 0: the file that was loaded is an old box's, from before 64 groups */
     uint32_t clock;   /* the box's own, in seconds; simulated here */
     uint8_t memory[SOCKJADE_MEMORY_SIZE], disk[GROUPS * SOCKJADE_GROUP_SIZE];
 };
@@ -49,11 +50,12 @@ struct list_reply serve_list(struct box *box, const uint8_t *blocks, size_t bloc
 /* Formats a box that has no file. */
 uint32_t format_box(struct box *box);
 
-/* Loads the box and restarts it. Where the number is not SOCKJADE_ACCEPTED, the box serves nothing. */
+/* Loads the box and restarts it. The memory of an old box is migrated before, and both are stored at once: the file is then a new box's.
+ * Where the number is not SOCKJADE_ACCEPTED, the box serves nothing, and the file is left as it is. */
 uint32_t start_box(struct box *box);
 
-/* An orderly stop: a sync, so that the next start loses nothing. A service calls it when it is told to end. The last one before a
- * box gets the first library that counts the updates to a held page has to be orderly: that library refuses a page held from before. */
+/* An orderly stop: a sync, so that the next start loses nothing. A service calls it when it is told to end. Of an old box whose library
+ * did not yet count the updates to a held page, the last stop has to be orderly: a migration refuses a page held from then. */
 uint32_t stop_box(struct box *box);
 
 /* A new salt from the box's generator. Pages given out under the old one match no more. */

@@ -1,5 +1,6 @@
 /* Plays a box and its server, which are two machines in earnest. It is run twice, as `service FILE`: the first run formats a box,
- * shows what a server can and cannot do, and stops in order; the second starts from the file, and plays a power cut. */
+ * shows what a server can and cannot do, and stops in order; the second starts from the file, that of an old box too, and plays a power
+ * cut. */
 #include <inttypes.h>
 #include <stdio.h>
 #include <stdlib.h>
@@ -150,11 +151,14 @@ static void first_run(struct box *box, struct server *server) {
     print_line(box, "sync, by the box", stop_box(box), "");
 }
 
-/* A box that the controller refuses is left as it is. */
+/* A box that the controller refuses is left as it is. The migration of an old one is accepted together with the restart. */
 static void start(struct box *box, uint32_t now) {
     box->clock = now;
     uint32_t number = start_box(box);
-    print_line(box, "restart, by the box", number, "");
+    if (box->old)
+        print_line(box, "migrate an old file, by the box", number, "");
+    if (!box->old || number == SOCKJADE_ACCEPTED)
+        print_line(box, "restart, by the box", number, "");
     if (number == SOCKJADE_ACCEPTED)
         return;
     fprintf(stderr, "%s: refused by the controller\n", box->path);

@@ -1,4 +1,5 @@
 #include "box.h"
+#include <stdio.h>
 #include <string.h>
 #include "check.h"
 
@@ -71,6 +72,13 @@ void refuse_update(const char *what, struct box *box, struct command command, ui
 void store_little_endian(uint8_t *out, uint32_t number, unsigned size) {
     for (unsigned i = 0; i < size; i++)
         out[i] = i < 4 ? (uint8_t)(number >> 8 * i) : 0;
+}
+
+void store_hex(uint8_t *out, const char *bytes) {
+    unsigned byte = 0;
+    int used = 0;
+    for (; sscanf(bytes, " %2x%n", &byte, &used) == 1; bytes += used)
+        *out++ = (uint8_t)byte;
 }
 
 void make_tag(uint8_t *tag, uint32_t group, uint32_t count, const uint8_t *page) {

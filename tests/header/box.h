@@ -7,11 +7,15 @@
 
 enum { ROOM = 1024, TEST_GROUPS = 2 };
 
+/* The memory's bytes, after document 02, Q-7: "it is 808 bytes: counts 32..287, last time 288, G 292, held 293, update count 294, zero
+ * 295, page 296..807". */
+enum { COUNTS = 32, LAST_TIME = 288, GROUP_NUMBER = 292, HELD = 293, UPDATES = 294, ZERO = 295, HELD_PAGE = 296, MEMORY = 808 };
+
 /* Where the two pages lie on the disk, in bytes: the physical blocks 64 and 129. */
 enum { PAGE_0 = 64 * 512, PAGE_1 = 129 * 512 };
 
 struct box {
-    uint8_t memory[616 + ROOM], disk[TEST_GROUPS * 33280 + ROOM];
+    uint8_t memory[MEMORY + ROOM], disk[TEST_GROUPS * 33280 + ROOM];
     uint8_t data[512 + ROOM];   /* of a write or a new salt; or a list of blocks */
     uint8_t proof[544 + ROOM];  /* of an update: a page and its tag */
     uint8_t answer[544 + ROOM];
@@ -45,6 +49,9 @@ void refuse_update(const char *what, struct box *box, struct command command, ui
 
 /* Stores the number in as many bytes. */
 void store_little_endian(uint8_t *out, uint32_t number, unsigned size);
+
+/* Stores the bytes that are written in hexadecimal, as many as are written. */
+void store_hex(uint8_t *out, const char *bytes);
 
 /* The tag of a page: of salt, group in 8 bytes, count in 4 bytes, page. The salt is the box's first. */
 void make_tag(uint8_t *tag, uint32_t group, uint32_t count, const uint8_t *page);

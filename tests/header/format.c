@@ -1,5 +1,6 @@
 /* "Formatting takes G and a salt, refuses by questions 1 (G, and 616 bytes of memory to fill), 2 and 6 (32 bytes of salt), stores
- * both, sets every entry to 00 00 00 00 01 00 00 00, held to 255 and the rest of the memory to 0, and touches no data block." */
+ * both, sets every entry to 00 00 00 00 01 00 00 00, held to 255 and the rest of the memory to 0, and touches no data block." The memory
+ * is of 808 bytes by document 02, Q-7. */
 #include <stdio.h>
 #include <stdlib.h>
 #include <string.h>
@@ -12,7 +13,7 @@ struct formatting {
     size_t memory_len, disk_len, salt_len;
 };
 
-static uint8_t memory[616 + ROOM], salt[32 + ROOM];
+static uint8_t memory[MEMORY + ROOM], salt[32 + ROOM];
 
 static struct formatting make_formatting(uint32_t groups) {
     return (struct formatting){groups, SOCKJADE_MEMORY_SIZE, (size_t)groups * SOCKJADE_GROUP_SIZE, SOCKJADE_SALT_SIZE};
@@ -43,21 +44,22 @@ static void refuse_formatting(const char *what, struct formatting f, uint32_t co
     free(disk);
 }
 
-/* "G groups, 1 to 16"; "The page of group g lies at 65 × g + 64" */
+/* Document 02, Q-7: "G may be 1 to 64." "The page of group g lies at 65 × g + 64" */
 static void test_most_groups(void) {
     struct formatting most = make_formatting(SOCKJADE_MOST_GROUPS);
-    uint8_t *disk = allocate_disk(most.disk_len);
+    uint8_t *disk = allocate_disk(65 * 33280);
     uint32_t number = run_formatting(disk, most);
     check_number("format the most groups", number, SOCKJADE_ACCEPTED, 0);
-    for (size_t group = 0; number == 0 && group < 16; group++) {
+    for (size_t group = 0; number == 0 && group < 64; group++) {
         check_filled("data blocks after formatting", disk + 33280 * group, 0x78, 64 * 512);
         check_blank("page after formatting", disk + (65 * group + 64) * 512, 64);
     }
     check_filled("salt after formatting", memory, 0x53, 32);
-    check_filled("counts and last time after formatting", memory + 32, 0, 68);
-    check_hex("groups, held group and zeros after formatting", memory + 100, "10 FF 00 00");
-    check_filled("held page after formatting", memory + 104, 0, 512);
-    check_filled("behind the memory", memory + 616, 0xAA, ROOM);
+    check_filled("counts and last time after formatting", memory + COUNTS, 0, 260);
+    check_hex("groups, held group and zeros after formatting", memory + GROUP_NUMBER, "40 FF 00 00");
+    check_filled("held page after formatting", memory + HELD_PAGE, 0, 512);
+    check_filled("behind the memory", memory + MEMORY, 0xAA, ROOM);
+    check_filled("behind the disk", disk + 64 * 33280, 0x78, 33280);
     free(disk);
 }
 
@@ -73,8 +75,8 @@ void test_format(void) {
     test_most_groups();
     refuse_formatting("format one group more", make_formatting(SOCKJADE_MOST_GROUPS + 1), SOCKJADE_MEMORY_INVALID, 1);
     refuse_formatting("format no group", make_formatting(0), SOCKJADE_MEMORY_INVALID, 1);
-    refuse_formatting("format 615 bytes of memory", short_memory, SOCKJADE_MEMORY_INVALID, 1);
-    refuse_formatting("format 617 bytes of memory", long_memory, SOCKJADE_MEMORY_INVALID, 1);
+    refuse_formatting("format 807 bytes of memory", short_memory, SOCKJADE_MEMORY_INVALID, 1);
+    refuse_formatting("format 809 bytes of memory", long_memory, SOCKJADE_MEMORY_INVALID, 1);
     refuse_formatting("format a disk one byte short", short_disk, SOCKJADE_DISK_SIZE_WRONG, 2);
     refuse_formatting("format a disk one byte long", long_disk, SOCKJADE_DISK_SIZE_WRONG, 2);
     refuse_formatting("format with 31 bytes of salt", short_salt, SOCKJADE_LENGTH_WRONG, 6);

@@ -68,7 +68,7 @@ static void test_page(void) {
     check_blank("page answered", box.answer, 64);
     check_hex("tag answered", box.answer + 512, "32fa29c67f611257015f70a1bd276ed5a7df5ce86a04ffa2789c9439ac2d6d44");
     check_tag("tag of the page answered", 1, 0);
-    check_hex("memory after a page", box.memory + 96, "E8 03 00 00 02 FF 00 00");
+    check_hex("memory after a page", box.memory + LAST_TIME, "E8 03 00 00 02 FF 00 00");
 }
 
 /* "4 write: data 512, value = lock. Word = lock, stamp = 2 × now." The tag is from b3sum: perl -e 'print pack("C*", 0 .. 31),
@@ -78,9 +78,9 @@ static void test_write(void) {
     check_hex("entry written", box.answer, "F4 01 00 00 D0 07 00 00");
     check_blank("other entries of a write", box.answer + 8, 63);
     check_hex("tag of a write", box.answer + 512, "b855e318f2716443a2176973d18e5d5f017c3046a0c78488f313e876a63e087c");
-    check_hex("counts after a write", box.memory + 32, "00 00 00 00 01 00 00 00");
-    check_hex("memory after a write", box.memory + 96, "E8 03 00 00 02 01 01 00");
-    check_same("held page after a write", box.memory + 104, box.answer, 512);
+    check_hex("counts after a write", box.memory + COUNTS, "00 00 00 00 01 00 00 00");
+    check_hex("memory after a write", box.memory + LAST_TIME, "E8 03 00 00 02 01 01 00");
+    check_same("held page after a write", box.memory + HELD_PAGE, box.answer, 512);
     check_filled("data after a write", box.disk + BLOCK_64, 0x61, 512);
     check_filled("data behind a write", box.disk + BLOCK_64 + 512, 0x78, 63 * 512);
     check_blank("page of group 0 after a write", box.disk + PAGE_0, 64);
@@ -103,8 +103,8 @@ static void test_eviction(void) {
     accept_update("write in another group", &box, SOCKJADE_WRITE, 0, 1001, 500);
     check_hex("page of group 1 on the disk", box.disk + PAGE_1, "F4 01 00 00 D0 07 00 00");
     check_blank("disk's page of group 0", box.disk + PAGE_0, 64);
-    check_hex("counts after two writes", box.memory + 32, "01 00 00 00 01 00 00 00");
-    check_hex("memory after two writes", box.memory + 96, "E9 03 00 00 02 00 01 00 F4 01 00 00 D2 07 00 00");
+    check_hex("counts after two writes", box.memory + COUNTS, "01 00 00 00 01 00 00 00");
+    check_hex("memory after two writes", box.memory + LAST_TIME, "E9 03 00 00 02 00 01 00 F4 01 00 00 D2 07 00 00");
 }
 
 /* A new box, in which block 64 is written under a lock and at once unfrozen. */
@@ -122,7 +122,7 @@ static void test_unfreeze(void) {
     accept_update("unfreeze", &box, SOCKJADE_UNFREEZE, 64, 1200, 0);
     check_hex("entry unfrozen", box.answer, "A5 06 00 00 D1 07 00 00"); /* 1,200 + 500 + 1 = 1,701 */
     check_tag("tag of an unfreeze", 1, 2);
-    check_hex("counts after an unfreeze", box.memory + 32, "00 00 00 00 02 00 00 00");
+    check_hex("counts after an unfreeze", box.memory + COUNTS, "00 00 00 00 02 00 00 00");
     check_unfrozen("lock 1", 1200, 1, "B2 04 00 00 61 09 00 00"); /* 1,202; 2 × 1,200 + 1 = 2,401 */
     check_unfrozen("the largest unfreeze", 2147483647, 2147483647, "FF FF FF FF FF FF FF FF"); /* both 2 × 2,147,483,647 + 1 */
     check_unfrozen("lock 0", 1200, 0, "B0 04 00 00 61 09 00 00"); /* 1,200 */
@@ -147,9 +147,9 @@ static void test_sync(void) {
     accept_command("sync", &box, make_command(SOCKJADE_SYNC, 0, 1001, 0));
     check_filled("answer of a sync", box.answer, 0, 544);
     check_hex("page synced", box.disk + PAGE_1, "F4 01 00 00 D0 07 00 00");
-    check_hex("counts after a sync", box.memory + 32, "00 00 00 00 01 00 00 00");
-    check_hex("memory after a sync", box.memory + 96, "E9 03 00 00 02 FF 00 00");
-    check_filled("held page after a sync", box.memory + 104, 0, 512);
+    check_hex("counts after a sync", box.memory + COUNTS, "00 00 00 00 01 00 00 00");
+    check_hex("memory after a sync", box.memory + LAST_TIME, "E9 03 00 00 02 FF 00 00");
+    check_filled("held page after a sync", box.memory + HELD_PAGE, 0, 512);
 }
 
 /* "8 restart ..: the held page is lost, its group's count rises by 1, held becomes 255, its bytes zero" */
@@ -158,9 +158,9 @@ static void test_restart(void) {
     accept_command("restart", &box, make_command(SOCKJADE_RESTART, 0, 1001, 0));
     check_filled("answer of a restart", box.answer, 0, 544);
     check_blank("disk's page after a restart", box.disk + PAGE_1, 64);
-    check_hex("counts after a restart", box.memory + 32, "00 00 00 00 02 00 00 00");
-    check_hex("memory after a restart", box.memory + 96, "E9 03 00 00 02 FF 00 00");
-    check_filled("held page after a restart", box.memory + 104, 0, 512);
+    check_hex("counts after a restart", box.memory + COUNTS, "00 00 00 00 02 00 00 00");
+    check_hex("memory after a restart", box.memory + LAST_TIME, "E9 03 00 00 02 FF 00 00");
+    check_filled("held page after a restart", box.memory + HELD_PAGE, 0, 512);
 }
 
 /* "9 new salt: data 32 ..; sync first, then the data become the salt and all counts 0." */
@@ -171,8 +171,8 @@ static void test_new_salt(void) {
     check_filled("answer of a new salt", box.answer, 0, 544);
     check_hex("page synced by a new salt", box.disk + PAGE_1, "F4 01 00 00 D0 07 00 00");
     check_filled("new salt in the memory", box.memory, 0x6E, 32);
-    check_filled("counts after a new salt", box.memory + 32, 0, 64);
-    check_hex("memory after a new salt", box.memory + 96, "E9 03 00 00 02 FF 00 00");
+    check_filled("counts after a new salt", box.memory + COUNTS, 0, 256);
+    check_hex("memory after a new salt", box.memory + LAST_TIME, "E9 03 00 00 02 FF 00 00");
 }
 
 /* "10 identify: G, then 64 × G, 4 bytes each." */

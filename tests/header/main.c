@@ -15,6 +15,8 @@ int main(void) {
     test_states();
     test_versions();
     test_recovery();
+    test_groups();
+    test_migrate();
     printf("header: %u comparisons, %u failed\n", checks_made(), checks_failed());
     return checks_failed() > 0;
 }

@@ -17,28 +17,28 @@ static void refuse_memory(const char *what, size_t offset, uint8_t byte) {
 /* A new box whose memory holds a group's page, after so many updates. Each group's count is 0. */
 static void refuse_held(const char *what, uint8_t group, uint8_t updates) {
     format_box(&box);
-    box.memory[101] = group;
-    box.memory[102] = updates;
+    box.memory[HELD] = group;
+    box.memory[UPDATES] = updates;
     refuse_command(what, &box, make_command(SOCKJADE_IDENTIFY, 0, 0, 0), SOCKJADE_MEMORY_INVALID, 1);
 }
 
-/* "1. Is the memory 616 bytes and valid?" Byte 102 with a page held is in updates.c. */
+/* "1. Is the memory .. bytes and valid?" The updates with a page held are in updates.c, and groups from 63 on in groups.c. */
 static void test_memory(void) {
     struct command command = make_command(SOCKJADE_IDENTIFY, 0, 0, 0);
     format_box(&box);
     command.memory_len--;
-    refuse_command("memory of 615 bytes", &box, command, SOCKJADE_MEMORY_INVALID, 1);
+    refuse_command("memory of 807 bytes", &box, command, SOCKJADE_MEMORY_INVALID, 1);
     command.memory_len += 2;
-    refuse_command("memory of 617 bytes", &box, command, SOCKJADE_MEMORY_INVALID, 1);
-    refuse_memory("memory of no groups", 100, 0);
-    refuse_memory("memory of 17 groups", 100, 17);
+    refuse_command("memory of 809 bytes", &box, command, SOCKJADE_MEMORY_INVALID, 1);
+    refuse_memory("memory of no groups", GROUP_NUMBER, 0);
+    refuse_memory("memory of 65 groups", GROUP_NUMBER, 65);
     refuse_held("memory that holds group 2", 2, 1);
     refuse_held("memory that holds a group of count 0", 1, 1);
-    refuse_memory("last time 2,147,483,648", 99, 0x80);
-    refuse_memory("count of group 2", 40, 1);
-    refuse_memory("updates with none held", 102, 1);
-    refuse_memory("byte 103", 103, 1);
-    refuse_memory("held page with none held", 615, 1);
+    refuse_memory("last time 2,147,483,648", LAST_TIME + 3, 0x80);
+    refuse_memory("count of group 2", COUNTS + 4 * 2, 1);
+    refuse_memory("updates with none held", UPDATES, 1);
+    refuse_memory("byte 295", ZERO, 1);
+    refuse_memory("last byte of a held page with none held", MEMORY - 1, 1);
 }
 
 /* "2. Is the disk G × 33,280 bytes?" */
@@ -137,8 +137,8 @@ static void test_tag(void) {
 static void set_count(const char *bytes_expected, uint32_t count) {
     format_box(&box);
     for (unsigned i = 0; i < 4; i++)
-        box.memory[32 + i] = (uint8_t)(count >> 8 * i);
-    check_hex("count set", box.memory + 32, bytes_expected);
+        box.memory[COUNTS + i] = (uint8_t)(count >> 8 * i);
+    check_hex("count set", box.memory + COUNTS, bytes_expected);
     memcpy(box.proof, box.disk + 64 * 512, 512);
     make_tag(box.proof + SOCKJADE_PAGE_SIZE, 0, count, box.proof);
 }
@@ -152,7 +152,7 @@ static void test_count(void) {
     refuse_command("count 4,294,967,295", &box, write, SOCKJADE_COUNT_EXHAUSTED, 8);
     set_count("FD FF FF FF", 4294967293u);
     accept_command("count 4,294,967,293", &box, write);
-    check_hex("the last count", box.memory + 32, "FE FF FF FF");
+    check_hex("the last count", box.memory + COUNTS, "FE FF FF FF");
     refuse_update("the last count", &box, make_command(SOCKJADE_UNFREEZE, 0, 1000, 0), SOCKJADE_COUNT_EXHAUSTED, 8);
 }
 

@@ -33,5 +33,8 @@ uint32_t sockjade_recover(const uint8_t *memory, size_t memory_len, const uint8_
 uint32_t sockjade_format(uint8_t *memory, size_t memory_len, uint8_t *disk, size_t disk_len, uint32_t groups,
                          const uint8_t *salt, size_t salt_len);
 
+/* Document 02, Q-7: "A separate entry turns a valid 616-byte memory into the 808-byte one"; of the old one no byte is altered */
+uint32_t sockjade_migrate(const uint8_t *old, size_t old_len, uint8_t *memory, size_t memory_len);
+
 /* "The digest itself takes 0 to 65,536 bytes and fills 32" */
 uint32_t sockjade_digest(const uint8_t *input, size_t input_len, uint8_t *out, size_t out_len);

@@ -154,10 +154,10 @@ static void test_stops(void) {
 
 /* "Questions 1, 2, 4 and 6 (a result of 1,024 bytes) are put" */
 static void test_refused(void) {
-    struct recovery r = {.point = 1003, .now = 1002, .memory_len = 615, .disk_len = 1, .result_len = 1023};
+    struct recovery r = {.point = 1003, .now = 1002, .memory_len = MEMORY - 1, .disk_len = 1, .result_len = 1023};
     put_and_sync();
     refuse_recovery("all wrong", r, SOCKJADE_MEMORY_INVALID, 1);
-    r.memory_len = 616;
+    r.memory_len = MEMORY;
     refuse_recovery("from the disk on", r, SOCKJADE_DISK_SIZE_WRONG, 2);
     r.disk_len = 2 * 33280;
     refuse_recovery("from the time on", r, SOCKJADE_TIME_OUT_OF_RANGE, 4);
@@ -167,9 +167,9 @@ static void test_refused(void) {
     refuse_recovery("a result of 1,023 bytes", r, SOCKJADE_LENGTH_WRONG, 6);
     r.result_len = 1025;
     refuse_recovery("a result of 1,025 bytes", r, SOCKJADE_LENGTH_WRONG, 6);
-    store.box.memory[103] = 1;
-    refuse_recovery("byte 103", make_recovery(1003, 1003), SOCKJADE_MEMORY_INVALID, 1);
-    store.box.memory[103] = 0;
+    store.box.memory[ZERO] = 1;
+    refuse_recovery("byte 295", make_recovery(1003, 1003), SOCKJADE_MEMORY_INVALID, 1);
+    store.box.memory[ZERO] = 0;
     find_versions("nothing wrong", 1003, 1003);
 }
 

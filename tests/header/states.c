@@ -5,7 +5,7 @@
 #include "check.h"
 #include "tests.h"
 
-enum { PAGES = 16 }; /* of the largest box */
+enum { PAGES = 64 }; /* of the largest box */
 
 struct query {
     uint32_t now;
@@ -13,6 +13,7 @@ struct query {
 };
 
 static struct box box, before;
+static uint8_t large_memory[MEMORY + ROOM], large_disk[PAGES * 33280 + ROOM];
 
 /* A new box. Block 0 was written at 1000 under a lock of 500 and unfrozen at 1200, and its page went to the disk when block 64 was
  * written at 1300 under a lock of 7: group 1's page is held, and on the disk it is blank. */
@@ -49,7 +50,7 @@ static void accept_query(const char *what, struct query query, uint32_t pages, s
     uint64_t result = run_query(query);
     check_number(what, sockjade_number(result), SOCKJADE_ACCEPTED, 0);
     check_number(what, sockjade_second(result), pages, pages);
-    store_little_endian(before.memory + 96, query.now, 4);
+    store_little_endian(before.memory + LAST_TIME, query.now, 4);
     memcpy(before.answer, box.answer, answered);
     check_same(what, (const uint8_t *)&box, (const uint8_t *)&before, sizeof before);
 }
@@ -72,7 +73,7 @@ static void test_shown(void) {
     check_number("state of 127", box.answer[2 * SOCKJADE_SHOWN_SIZE], SOCKJADE_FREE, 0);
     check_hex("64, 0, 127 at 1650", box.answer,
               "01 07 00 00 00 00 00 00 00  02 33 00 00 00 00 00 00 00  00 8E F9 FF FF FF FF FF FF"); /* 1,701 - 1,650 = 51 */
-    check_hex("memory after a list", box.memory + 96, "72 06 00 00 02 01 01 00");
+    check_hex("memory after a list", box.memory + LAST_TIME, "72 06 00 00 02 01 01 00");
     list_three(0, 64, 0);
     accept_query("0, 64, 0 at 1700", make_query(3, 1700), 2, 27);
     check_hex("0, 64, 0 at 1700", box.answer,
@@ -110,28 +111,42 @@ static void freeze_page(uint8_t *page, uint32_t group, uint32_t more) {
     }
 }
 
-/* The largest box, group 5's page held: the list of blocks 1023, 1007, .. 15 names each group four times. */
-static void test_all_groups(void) {
-    static uint8_t memory[616 + ROOM], disk[PAGES * 33280 + ROOM], answer[576 + ROOM];
-    uint8_t salt[32] = {0}, expected[9] = {1}, blocks[256 + ROOM];
-    check_number("format the largest box", sockjade_format(memory, 616, disk, PAGES * 33280, PAGES, salt, 32), SOCKJADE_ACCEPTED, 0);
+/* The largest box. Each block is frozen, under a lock that is its number; by group 5's page, which is held, it is 10,000 more. */
+static void freeze_largest_box(void) {
+    const uint8_t salt[32] = {0};
+    uint32_t number = sockjade_format(large_memory, MEMORY, large_disk, PAGES * 33280, PAGES, salt, 32);
+    check_number("format the largest box", number, SOCKJADE_ACCEPTED, 0);
     for (uint32_t group = 0; group < PAGES; group++)
-        freeze_page(disk + (65 * group + 64) * 512, group, 0);
-    freeze_page(memory + 104, 5, 10000);
-    memory[32 + 4 * 5] = 1; /* a held group's count is 1 or more */
-    memory[101] = 5;
-    memory[102] = 1; /* and so are its updates */
+        freeze_page(large_disk + (65 * group + 64) * 512, group, 0);
+    freeze_page(large_memory + HELD_PAGE, 5, 10000);
+    large_memory[COUNTS + 4 * 5] = 1; /* a held group's count is 1 or more */
+    large_memory[HELD] = 5;
+    large_memory[UPDATES] = 1; /* and so are its updates */
+}
+
+/* A list of 64 blocks of the largest box, from this one downwards in equal steps, reads so many pages. */
+static void list_downwards(const char *what, uint32_t last, uint32_t step, uint32_t constant, uint32_t pages) {
+    static uint8_t answer[576 + ROOM];
+    uint8_t expected[9] = {1}, blocks[256];
+    memset(answer, 0xAA, sizeof answer);
     for (uint32_t i = 0; i < 64; i++)
-        store_little_endian(blocks + 4 * i, 1023 - 16 * i, 4);
-    uint64_t result = sockjade_states(memory, 616, disk, PAGES * 33280, blocks, 256, 1000, answer, 576);
-    check_number("a list over all groups", sockjade_number(result), SOCKJADE_ACCEPTED, 0);
-    check_number("pages of all groups", sockjade_second(result), SOCKJADE_MOST_GROUPS, 16);
+        store_little_endian(blocks + 4 * i, last - step * i, 4);
+    uint64_t result = sockjade_states(large_memory, MEMORY, large_disk, PAGES * 33280, blocks, 256, 1000, answer, 576);
+    check_number(what, sockjade_number(result), SOCKJADE_ACCEPTED, 0);
+    check_number(what, sockjade_second(result), constant, pages);
     for (uint32_t i = 0; i < 64; i++) {
-        uint32_t block = 1023 - 16 * i;
+        uint32_t block = last - step * i;
         store_little_endian(expected + 1, block / 64 == 5 ? block + 10000 : block, 8);
-        check_same("a list over all groups", answer + 9 * i, expected, 9);
+        check_same(what, answer + 9 * i, expected, 9);
     }
-    check_filled("behind the answer of a list", answer + 576, 0, ROOM);
+    check_filled("behind the answer of a list", answer + 576, 0xAA, ROOM);
+}
+
+/* Blocks 4095, 4031, .. 63 are one of each group; 1023, 1007, .. 15 are four of each of the first sixteen. */
+static void test_all_groups(void) {
+    freeze_largest_box();
+    list_downwards("a list over all groups", 4095, 64, SOCKJADE_MOST_GROUPS, 64);
+    list_downwards("a list over sixteen groups", 1023, 16, 16, 16);
 }
 
 /* Questions 1, 2 and 4 as for a command. */
@@ -144,13 +159,13 @@ static void test_box(void) {
     long_memory.memory_len++;
     short_disk.disk_len--;
     long_disk.disk_len++;
-    refuse_query("a list with 615 bytes of memory", short_memory, SOCKJADE_MEMORY_INVALID, 1);
-    refuse_query("a list with 617 bytes of memory", long_memory, SOCKJADE_MEMORY_INVALID, 1);
+    refuse_query("a list with 807 bytes of memory", short_memory, SOCKJADE_MEMORY_INVALID, 1);
+    refuse_query("a list with 809 bytes of memory", long_memory, SOCKJADE_MEMORY_INVALID, 1);
     refuse_query("a list with a disk one byte short", short_disk, SOCKJADE_DISK_SIZE_WRONG, 2);
     refuse_query("a list with a disk one byte long", long_disk, SOCKJADE_DISK_SIZE_WRONG, 2);
     refuse_query("a list at 1299", make_query(3, 1299), SOCKJADE_TIME_OUT_OF_RANGE, 4);
     refuse_query("a list at 2,147,483,648", make_query(3, 2147483648u), SOCKJADE_TIME_OUT_OF_RANGE, 4);
-    box.memory[100] = 0;
+    box.memory[GROUP_NUMBER] = 0;
     refuse_query("a list with a memory of no groups", make_query(3, 1300), SOCKJADE_MEMORY_INVALID, 1);
 }
 
@@ -195,11 +210,11 @@ static void test_numbers_and_answer(void) {
 
 /* "12 ..; asked after question 4": where several say no, the first in the order 1, 2, 4, 12, 5, 6 is answered. */
 static void test_order(void) {
-    struct query query = {.now = 1299, .memory_len = 615, .disk_len = 1, .blocks_len = 13, .answer_len = 1};
+    struct query query = {.now = 1299, .memory_len = MEMORY - 1, .disk_len = 1, .blocks_len = 13, .answer_len = 1};
     write_two_groups();
     list_three(0, 128, 0);
     refuse_query("all six", query, SOCKJADE_MEMORY_INVALID, 1);
-    query.memory_len = 616;
+    query.memory_len = MEMORY;
     refuse_query("all from 2 on", query, SOCKJADE_DISK_SIZE_WRONG, 2);
     query.disk_len = 2 * 33280;
     refuse_query("all from 4 on", query, SOCKJADE_TIME_OUT_OF_RANGE, 4);

@@ -10,6 +10,11 @@ void test_numbers(void);
 void test_states(void);
 void test_versions(void);
 void test_recovery(void);
+void test_groups(void);
+void test_migrate(void);
+
+/* Of test_migrate, in migrated.c. */
+void test_migrated(void);
 
 /* Of test_versions, in versions_refused.c. */
 void test_put_refused(void);

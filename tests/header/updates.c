@@ -1,5 +1,6 @@
 /* Pages that leave by themselves, after document 02, Q-4: "Byte 102 of the memory now counts updates to the held page, 1 to 63, and is
- * 0 when none is held; at the 64th update the page goes to the disk in the same command, as by a sync, after any data." */
+ * 0 when none is held; at the 64th update the page goes to the disk in the same command, as by a sync, after any data." Since Q-7 it is
+ * byte 294. */
 #include <string.h>
 #include "check.h"
 #include "store.h"
@@ -19,19 +20,19 @@ static void update_group_1(uint32_t updates) {
 
 /* No page is held, and it has no updates. */
 static void check_none_held(const char *what) {
-    check_hex(what, box.memory + 96, "E8 03 00 00 02 FF 00 00");
-    check_filled(what, box.memory + 104, 0, 512);
+    check_hex(what, box.memory + LAST_TIME, "E8 03 00 00 02 FF 00 00");
+    check_filled(what, box.memory + HELD_PAGE, 0, 512);
 }
 
-/* Byte 102 along the way. The page on the disk stays as it was. */
+/* The count of updates along the way. The page on the disk stays as it was. */
 static void test_counted(void) {
     update_group_1(1);
     for (uint32_t updates = 1; updates < 63; updates++) {
-        check_number("updates to the held page", box.memory[102], updates, updates);
+        check_number("updates to the held page", box.memory[UPDATES], updates, updates);
         accept_update("increment", &box, SOCKJADE_INCREMENT, 64, 1000, 1);
     }
-    check_hex("memory after 63 updates", box.memory + 96, "E8 03 00 00 02 01 3F 00 3E 00 00 00 D0 07 00 00");
-    check_number("the most updates to a held page", box.memory[102], SOCKJADE_MOST_UPDATES, 63);
+    check_hex("memory after 63 updates", box.memory + LAST_TIME, "E8 03 00 00 02 01 3F 00 3E 00 00 00 D0 07 00 00");
+    check_number("the most updates to a held page", box.memory[UPDATES], SOCKJADE_MOST_UPDATES, 63);
     check_blank("disk's page after 63 updates", box.disk + PAGE_1, 64);
 }
 
@@ -40,13 +41,13 @@ static void test_counted(void) {
 static void test_leaves(void) {
     update_group_1(SOCKJADE_MOST_UPDATES + 1);
     check_none_held("memory after 64 updates");
-    check_hex("counts after 64 updates", box.memory + 32, "00 00 00 00 40 00 00 00");
+    check_hex("counts after 64 updates", box.memory + COUNTS, "00 00 00 00 40 00 00 00");
     check_hex("page that left", box.disk + PAGE_1, "3F 00 00 00 D0 07 00 00");
     check_blank("other entries of the page that left", box.disk + PAGE_1 + 8, 63);
     check_same("page answered with the 64th update", box.answer, box.disk + PAGE_1, 512);
     check_hex("its tag", box.answer + 512, "f0589d116a5b66567cf094a0fc60824dd4dee6e6c7c17332558878ae21a26932");
     accept_update("the next update", &box, SOCKJADE_INCREMENT, 64, 1000, 1);
-    check_hex("memory after 65 updates", box.memory + 96, "E8 03 00 00 02 01 01 00 40 00 00 00 D0 07 00 00");
+    check_hex("memory after 65 updates", box.memory + LAST_TIME, "E8 03 00 00 02 01 01 00 40 00 00 00 D0 07 00 00");
     check_hex("disk's page after 65 updates", box.disk + PAGE_1, "3F 00 00 00 D0 07 00 00");
 }
 
@@ -70,12 +71,12 @@ static void test_restarted(void) {
     accept_command("restart", &box, make_command(SOCKJADE_RESTART, 0, 1000, 0));
     check_none_held("memory after 63 updates and a restart");
     check_blank("page after 63 updates and a restart", box.disk + PAGE_1, 64);
-    check_hex("counts after 63 updates and a restart", box.memory + 32, "00 00 00 00 40 00 00 00");
+    check_hex("counts after 63 updates and a restart", box.memory + COUNTS, "00 00 00 00 40 00 00 00");
     update_group_1(SOCKJADE_MOST_UPDATES + 1);
     accept_command("restart", &box, make_command(SOCKJADE_RESTART, 0, 1000, 0));
     check_none_held("memory after 64 updates and a restart");
     check_hex("page after 64 updates and a restart", box.disk + PAGE_1, "3F 00 00 00 D0 07 00 00");
-    check_hex("counts after 64 updates and a restart", box.memory + 32, "00 00 00 00 40 00 00 00");
+    check_hex("counts after 64 updates and a restart", box.memory + COUNTS, "00 00 00 00 40 00 00 00");
 }
 
 /* A sync, a restart, a new salt and another group's update let the page go, and its updates are counted from 1 again. */
@@ -86,13 +87,13 @@ static void test_counted_anew(void) {
         accept_command("sync, restart or new salt", &box, make_command(kinds[i], 0, 1000, 0));
         check_none_held("memory after it");
         accept_update("write after it", &box, SOCKJADE_WRITE, 65, 1000, 9);
-        check_hex("memory after a write after it", box.memory + 100, "02 01 01 00");
+        check_hex("memory after a write after it", box.memory + GROUP_NUMBER, "02 01 01 00");
     }
     update_group_1(SOCKJADE_MOST_UPDATES);
     accept_update("write in another group", &box, SOCKJADE_WRITE, 0, 1000, 9);
-    check_hex("memory after it", box.memory + 100, "02 00 01 00");
+    check_hex("memory after it", box.memory + GROUP_NUMBER, "02 00 01 00");
     accept_update("increment in the first group", &box, SOCKJADE_INCREMENT, 64, 1000, 1);
-    check_hex("memory after that", box.memory + 100, "02 01 01 00");
+    check_hex("memory after that", box.memory + GROUP_NUMBER, "02 01 01 00");
 }
 
 /* What is refused, or only looks, is no update. */
@@ -103,21 +104,21 @@ static void test_not_counted(void) {
     refuse_command("a wrong tag", &box, make_command(SOCKJADE_WRITE, 65, 1000, 1), SOCKJADE_TAG_WRONG, 7);
     accept_command("read", &box, make_command(SOCKJADE_READ, 64, 1000, 0));
     accept_command("entry", &box, make_command(SOCKJADE_ENTRY, 64, 1000, 0));
-    check_hex("memory after what is no update", box.memory + 100, "02 01 3F 00 3E 00 00 00 D0 07 00 00");
+    check_hex("memory after what is no update", box.memory + GROUP_NUMBER, "02 01 3F 00 3E 00 00 00 D0 07 00 00");
 }
 
-/* With a page held and so many updates, in bytes 102 and 103, each call that asks for the memory gets 1; put and flush before they ask
+/* With a page held and so many updates, and byte behind it, each call that asks for the memory gets 1; put and flush before they ask
  * for the time, so that it is not their first command which asks. */
 static void refuse_updates(const char *what, uint8_t updates, uint8_t zero) {
     uint8_t blocks[4] = {0}, shown[9];
     start_store(500);
     accept_put("part 7", 7, 1000, 0x61, 1);
-    store.box.memory[102] = updates;
-    store.box.memory[103] = zero;
+    store.box.memory[UPDATES] = updates;
+    store.box.memory[ZERO] = zero;
     refuse_command(what, &store.box, make_command(SOCKJADE_SYNC, 0, 1000, 0), SOCKJADE_MEMORY_INVALID, 1);
     refuse_put(what, make_store_call(7, 999), SOCKJADE_MEMORY_INVALID, 1);
     refuse_flush(what, make_store_call(0, 999), SOCKJADE_MEMORY_INVALID, 1);
-    uint64_t listed = sockjade_states(store.box.memory, 616, store.box.disk, 2 * 33280, blocks, 4, 1000, shown, 9);
+    uint64_t listed = sockjade_states(store.box.memory, MEMORY, store.box.disk, 2 * 33280, blocks, 4, 1000, shown, 9);
     check_number(what, sockjade_number(listed), SOCKJADE_MEMORY_INVALID, 1);
 }
 
@@ -128,9 +129,9 @@ static void test_validity(void) {
     refuse_updates("65 updates", 65, 0);
     refuse_updates("129 updates", 129, 0);
     refuse_updates("255 updates", 255, 0);
-    refuse_updates("byte 103", 1, 1);
+    refuse_updates("byte 295", 1, 1);
     update_group_1(1);
-    box.memory[102] = SOCKJADE_MOST_UPDATES;
+    box.memory[UPDATES] = SOCKJADE_MOST_UPDATES;
     accept_update("with 63 updates, one more", &box, SOCKJADE_INCREMENT, 64, 1000, 1);
     check_none_held("memory after it");
 }
@@ -140,9 +141,9 @@ static void test_put_leaves(void) {
     start_store(500);
     for (uint32_t put = 1; put < SOCKJADE_LOG_RECORDS; put++)
         accept_put("a put", put, 1000, 0x61, put);
-    check_hex("memory after 62 puts", store.box.memory + 100, "02 00 3E 00");
+    check_hex("memory after 62 puts", store.box.memory + GROUP_NUMBER, "02 00 3E 00");
     accept_put("the put that fills the log", 63, 1000, 0x61, 63);
-    check_hex("memory after it", store.box.memory + 100, "02 FF 00 00");
+    check_hex("memory after it", store.box.memory + GROUP_NUMBER, "02 FF 00 00");
     for (uint32_t block = 0; block < 64; block++)
         check_hex("entry on the disk", store.box.disk + 64 * 512 + 8 * block, "F4 01 00 00 D0 07 00 00");
 }

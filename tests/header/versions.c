@@ -38,9 +38,9 @@ static void test_puts(void) {
     check_block("part 7", 7, 3);
     check_block("part 255", 255, 2);
     check_block("part 8", 8, SOCKJADE_NO_BLOCK);
-    check_hex("held page: 0 blank, 1 unfrozen at 1002, 2 and 3 frozen", store.box.memory + 104,
+    check_hex("held page: 0 blank, 1 unfrozen at 1002, 2 and 3 frozen", store.box.memory + HELD_PAGE,
               "00 00 00 00 01 00 00 00  DF 05 00 00 D1 07 00 00  F4 01 00 00 D2 07 00 00  F4 01 00 00 D4 07 00 00");
-    check_hex("three writes and an unfreeze", store.box.memory + 32, "04 00 00 00 00 00 00 00");
+    check_hex("three writes and an unfreeze", store.box.memory + COUNTS, "04 00 00 00 00 00 00 00");
     check_filled("the version replaced", store.box.disk + 512, 0x61, 512);
     check_filled("the newest version of part 255", store.box.disk + 2 * 512, 0x62, 512);
     check_filled("the newest version of part 7", store.box.disk + 3 * 512, 0x63, 512);
@@ -56,7 +56,7 @@ static void test_flush(void) {
     check_hex("log block", store.box.answer, "07 00 00 00 01 00 00 00  FF 00 00 00 02 00 00 00  07 00 00 00 03 00 00 00");
     check_filled("records not used in it", store.box.answer + 24, 0xFF, 480);
     check_hex("pointer of the log block", store.box.answer + 504, "04 00 00 00 00 00 00 00");
-    check_hex("entry of the log block", store.box.memory + 104, "F4 01 00 00 D6 07 00 00");
+    check_hex("entry of the log block", store.box.memory + HELD_PAGE, "F4 01 00 00 D6 07 00 00");
     check_hex("state after a flush", store.state, "F4 01 00 00 04 00 00 00 04 00 00 00 00 00 00 00");
     check_filled("no records", store.state + 1040, 0xFF, 496);
     nothing.state_len = 1536;

@@ -28,7 +28,7 @@ static void leave_free(uint32_t left) {
 
 /* "13, part number over 255, asked first; 14, .. asked after 13 and questions 1, 2 and 4"; content is the write's own question. */
 void test_put_refused(void) {
-    struct store_call call = {.part = SOCKJADE_LAST_PART + 1, .now = 999, .state_len = 1535, .memory_len = 615, .disk_len = 1};
+    struct store_call call = {.part = SOCKJADE_LAST_PART + 1, .now = 999, .state_len = 1535, .memory_len = MEMORY - 1, .disk_len = 1};
     put_one();
     leave_free(1);
     refuse_put("all wrong", call, SOCKJADE_PART_OUT_OF_RANGE, 13);
@@ -36,7 +36,7 @@ void test_put_refused(void) {
     refuse_put("all but the part", call, SOCKJADE_MEMORY_INVALID, 1);
     call.state_len = 1536;
     refuse_put("from the memory on", call, SOCKJADE_MEMORY_INVALID, 1);
-    call.memory_len = 616;
+    call.memory_len = MEMORY;
     refuse_put("from the disk on", call, SOCKJADE_DISK_SIZE_WRONG, 2);
     call.disk_len = 2 * 33280;
     refuse_put("from the time on", call, SOCKJADE_TIME_OUT_OF_RANGE, 4);
@@ -66,26 +66,26 @@ void test_state_refused(void) {
     refuse_state_byte("63 records", 12, 63);
     refuse_state_byte("a record that is not there", 12, 2);
     refuse_state_byte("a version of part 9 in block 4,294,967,040", 52, 0);
-    refuse_state_byte("a version of part 7 in block 1,025", 45, 4);
+    refuse_state_byte("a version of part 7 in block 4,097", 45, 16);
     refuse_state_byte("a record of part 263", 1041, 1);
-    refuse_state_byte("a record of block 1,025", 1045, 4);
+    refuse_state_byte("a record of block 4,097", 1045, 16);
     refuse_state_byte("the first byte behind the records", 1048, 0);
     refuse_state_byte("the last byte behind the records", 1535, 0);
     put_one();
     store_little_endian(store.state + 8, 4294967295u, 4);
     accept_put("a last taken block in no group", 8, 1000, 0x62, 2);
-    store_little_endian(store.state + 4, 1024, 4);
+    store_little_endian(store.state + 4, 4096, 4);
     accept_put("a reserve in no group", 8, 1000, 0x63, 3);
 }
 
 void test_flush_refused(void) {
-    struct store_call call = {.now = 999, .state_len = 1537, .memory_len = 617, .disk_len = 1};
+    struct store_call call = {.now = 999, .state_len = 1537, .memory_len = MEMORY + 1, .disk_len = 1};
     put_one();
     leave_free(1);
     refuse_flush("all wrong", call, SOCKJADE_MEMORY_INVALID, 1);
     call.state_len = 1536;
     refuse_flush("from the memory on", call, SOCKJADE_MEMORY_INVALID, 1);
-    call.memory_len = 616;
+    call.memory_len = MEMORY;
     refuse_flush("from the disk on", call, SOCKJADE_DISK_SIZE_WRONG, 2);
     call.disk_len = 2 * 33280;
     refuse_flush("from the time on", call, SOCKJADE_TIME_OUT_OF_RANGE, 4);
@@ -95,9 +95,9 @@ void test_flush_refused(void) {
     store_entry(0, 500, 2000);
     refuse_flush("the reserve is frozen", call, SOCKJADE_STATE_WRONG, 9);
     store_entry(0, 0, 1);
-    memset(store.box.memory + 32, 0xFF, 4);
+    memset(store.box.memory + COUNTS, 0xFF, 4);
     refuse_flush("the count is exhausted", call, SOCKJADE_COUNT_EXHAUSTED, 8);
-    memset(store.box.memory + 32, 0, 4);
+    memset(store.box.memory + COUNTS, 0, 4);
     store.state[4] = 128;
     refuse_flush("the reserve is in no group", call, SOCKJADE_ADDRESS_OUT_OF_RANGE, 5);
     store.state[4] = 0;
@@ -113,11 +113,11 @@ void test_commands_refused(void) {
     empty.data_len = 0;
     refuse_put("the same, and no content: the write is the first command", empty, SOCKJADE_LENGTH_WRONG, 6);
     put_one();
-    store_little_endian(store.box.memory + 32, 4294967293u, 4);
+    store_little_endian(store.box.memory + COUNTS, 4294967293u, 4);
     refuse_put("a count for the write alone", make_store_call(7, 1000), SOCKJADE_COUNT_EXHAUSTED, 8);
     accept_put("a part without a version", 8, 1000, 0x62, 2);
     put_one();
-    store_little_endian(store.box.memory + 104 + 8, 4294967295u - 1000, 4);
+    store_little_endian(store.box.memory + HELD_PAGE + 8, 4294967295u - 1000, 4);
     refuse_put("a lock that no command writes", make_store_call(7, 1000), SOCKJADE_LIMIT_EXCEEDED, 10);
     put_one();
     store_little_endian(store.state + 44, 128, 4);
