@@ -79,6 +79,8 @@ extern "C" {
         result: *mut u8,
         result_len: usize,
     ) -> u32;
+
+    fn sockjade_migrate(old: *const u8, old_len: usize, memory: *mut u8, memory_len: usize) -> u32;
 }
 
 /// The archive's digest: 0 and the digest in `out`, or 6 and `out` as it was.
@@ -226,6 +228,12 @@ pub fn recover(memory: &[u8], disk: &[u8], point: u32, now: u32, result: &mut [u
             result.len(),
         )
     }
+}
+
+/// The archive's migration of an old box's memory: 0, or 1 and no byte is changed.
+pub fn migrate(old: &[u8], memory: &mut [u8]) -> u32 {
+    // SAFETY: the function has no precondition beyond two valid slices that do not overlap.
+    unsafe { sockjade_migrate(old.as_ptr(), old.len(), memory.as_mut_ptr(), memory.len()) }
 }
 
 /// How a second number, or the question that said no, is answered: the number in the low 32 bits, the

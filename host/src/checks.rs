@@ -1,5 +1,5 @@
 //! The comparison of commands and lists, whose checks `bin/commands.rs` runs, in `versions` that of the version store, in
-//! `recovery` that of its recovery, and in `script` that of scripts.
+//! `recovery` that of its recovery, in `migration` that of old boxes and what becomes of them, and in `script` that of scripts.
 mod alone;
 pub mod call;
 pub mod edges;
@@ -8,9 +8,12 @@ pub mod leaving;
 pub mod lengths;
 pub mod limits;
 pub mod lists;
+pub mod migration;
+pub mod model;
 pub mod order;
 pub mod pages;
 pub mod pair;
+pub mod places;
 pub mod recovery;
 pub mod room;
 pub mod runs;

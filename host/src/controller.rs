@@ -1,20 +1,26 @@
 //! The controller, written from document 01 and apart from the Rattle code. It works on the slices
 //! that it is lent. The questions see them only to read, so a refusal cannot change a byte. In
-//! `states` is the list of document 02's request Q-1, in `entry` the expiry of Q-2, and in `change`
-//! and `memory` the page that leaves by itself, of Q-4.
+//! `states` is the list of document 02's request Q-1, in `entry` the expiry of Q-2, in `change` and
+//! `memory` the page that leaves by itself, of Q-4, and in `migration` the way from an old box to a
+//! present one, of Q-7. All else is for either box: how many counts it has is a parameter.
 mod entry;
 mod free;
 mod memory;
+mod migration;
 mod states;
+mod tag;
 #[cfg(test)]
 mod tests;
 
-use crate::blake3;
 use entry::{Entry, Update};
 pub use free::{ask_call, is_free, Blocks};
-use memory::{Memory, Page, LAST_COUNT, LATEST, MOST_UPDATES, PAGE_SIZE};
+use memory::{Page, LAST_COUNT, LATEST, MOST_UPDATES, PAGE_SIZE};
+pub use memory::{Memory, OLD, PRESENT};
+pub use migration::migrate;
 pub use states::states;
 use std::ops::Range;
+use tag::{tag, TAG_SIZE};
+pub use tag::{Digest, Message, OwnDigest};
 
 pub const READ: u32 = 1;
 pub const ENTRY: u32 = 2;
@@ -31,26 +37,7 @@ const BLOCK_SIZE: usize = 512;
 const GROUP_DATA: u32 = 64;
 const GROUP_SIZE: usize = 65 * BLOCK_SIZE;
 const SALT_SIZE: usize = 32;
-const TAG_SIZE: usize = 32;
 const PROOF_SIZE: usize = PAGE_SIZE + TAG_SIZE;
-const MESSAGE_SIZE: usize = SALT_SIZE + 8 + 4 + PAGE_SIZE;
-
-type Tag = [u8; TAG_SIZE];
-pub type Message = [u8; MESSAGE_SIZE];
-
-/// The hash that tags are made with.
-pub trait Digest {
-    fn digest(message: &Message) -> Tag;
-}
-
-/// This crate's own BLAKE3.
-pub struct OwnDigest;
-
-impl Digest for OwnDigest {
-    fn digest(message: &Message) -> Tag {
-        blake3::digest(message)
-    }
-}
 
 pub struct Command<'a> {
     pub kind: u32,
@@ -62,41 +49,45 @@ pub struct Command<'a> {
 }
 
 impl Command<'_> {
+    #[inline]
     fn group(&self) -> usize {
         (self.block / GROUP_DATA) as usize
     }
 
     /// The block's place in its group.
+    #[inline]
     fn index(&self) -> usize {
         (self.block % GROUP_DATA) as usize
     }
 
     /// Where the block begins on the disk.
+    #[inline]
     fn place(&self) -> usize {
         GROUP_SIZE * self.group() + BLOCK_SIZE * self.index()
     }
 
     /// The page that the proof brings.
+    #[inline]
     fn page(&self) -> &Page {
         self.proof[..PAGE_SIZE].try_into().unwrap()
     }
 }
 
 /// Fills the memory and the disk's pages: 0, or the number of the question that said no.
-pub fn format(memory: &mut [u8], disk: &mut [u8], groups: u32, salt: &[u8]) -> u32 {
-    let Some(memory) = Memory::of_mut(memory) else {
+pub fn format<const COUNTS: usize>(memory: &mut [u8], disk: &mut [u8], groups: u32, salt: &[u8]) -> u32 {
+    let Some(memory) = Memory::<COUNTS>::of_mut(memory) else {
         return 1;
     };
-    if !(1..=16).contains(&groups) {
+    if !Memory::<COUNTS>::groups_in_range(groups) {
         return 1;
     }
     if disk.len() != groups as usize * GROUP_SIZE {
         return 2;
     }
-    if salt.len() != SALT_SIZE {
+    let Ok(salt) = salt.try_into() else {
         return 6;
-    }
-    memory.format(groups as u8, salt);
+    };
+    *memory = Memory::formatted(groups as u8, salt);
     for group in disk.chunks_exact_mut(GROUP_SIZE) {
         for entry in group[GROUP_SIZE - PAGE_SIZE..].chunks_exact_mut(8) {
             entry.copy_from_slice(&Entry::blank().bytes());
@@ -106,25 +97,31 @@ pub fn format(memory: &mut [u8], disk: &mut [u8], groups: u32, salt: &[u8]) -> u
 }
 
 /// One command: 0, or the number of the first question that said no.
-pub fn command<D: Digest>(memory: &mut [u8], disk: &mut [u8], command: &Command, answer: &mut [u8]) -> u32 {
-    match questions::<D>(memory, disk, command, answer.len()) {
+pub fn command<const COUNTS: usize, D: Digest>(
+    memory: &mut [u8],
+    disk: &mut [u8],
+    command: &Command,
+    answer: &mut [u8],
+) -> u32 {
+    match questions::<COUNTS, D>(memory, disk, command, answer.len()) {
         Err(number) => number,
         Ok(entry) => {
-            let memory = Memory::of_mut(memory).unwrap();
+            let memory = Memory::<COUNTS>::of_mut(memory).unwrap();
             memory.set_last_time(command.now);
-            perform::<D>(memory, disk, command, entry, answer.try_into().unwrap());
+            perform::<COUNTS, D>(memory, disk, command, entry, answer.try_into().unwrap());
             0
         }
     }
 }
 
+#[inline]
 fn ask(yes: bool, number: u32) -> Result<(), u32> {
     if yes { Ok(()) } else { Err(number) }
 }
 
 /// Questions 1 and 2, which are about the box. Inlined, as the benchmark compiles `command` in a crate of its own.
 #[inline]
-fn ask_box<'a>(memory: &'a [u8], disk: &[u8]) -> Result<&'a Memory, u32> {
+fn ask_box<'a, const COUNTS: usize>(memory: &'a [u8], disk: &[u8]) -> Result<&'a Memory<COUNTS>, u32> {
     let memory = Memory::of(memory).ok_or(1u32)?;
     ask(memory.valid(), 1)?;
     ask(disk.len() == memory.groups() * GROUP_SIZE, 2)?;
@@ -133,13 +130,18 @@ fn ask_box<'a>(memory: &'a [u8], disk: &[u8]) -> Result<&'a Memory, u32> {
 
 /// Question 4.
 #[inline]
-fn ask_time(memory: &Memory, now: u32) -> Result<(), u32> {
+fn ask_time<const COUNTS: usize>(memory: &Memory<COUNTS>, now: u32) -> Result<(), u32> {
     ask(memory.last_time() <= now && now <= LATEST, 4)
 }
 
 /// The questions in order; for an update that passes, the entry that it stores.
-fn questions<D: Digest>(memory: &[u8], disk: &[u8], c: &Command, answer_len: usize) -> Result<Option<Entry>, u32> {
-    let memory = ask_box(memory, disk)?;
+fn questions<const COUNTS: usize, D: Digest>(
+    memory: &[u8],
+    disk: &[u8],
+    c: &Command,
+    answer_len: usize,
+) -> Result<Option<Entry>, u32> {
+    let memory = ask_box::<COUNTS>(memory, disk)?;
     let groups = memory.groups();
     ask((READ..=IDENTIFY).contains(&c.kind), 3)?;
     ask_time(memory, c.now)?;
@@ -163,36 +165,26 @@ fn questions<D: Digest>(memory: &[u8], disk: &[u8], c: &Command, answer_len: usi
         NEW_SALT => return ask(c.data != memory.salt(), 11).map(|()| None),
         _ => return Ok(None),
     };
-    ask(c.proof[PAGE_SIZE..] == tag::<D>(memory, c.group(), c.page()), 7)?;
+    ask(c.proof[PAGE_SIZE..] == tag::<COUNTS, D>(memory, c.group(), c.page()), 7)?;
     ask(memory.count(c.group()) < LAST_COUNT, 8)?;
     Entry::read(c.page(), c.index()).updated(update, c.now).map(Some)
 }
 
-/// The tag of a group's page under the present salt and count.
-fn tag<D: Digest>(memory: &Memory, group: usize, page: &Page) -> Tag {
-    let mut message = [0; MESSAGE_SIZE];
-    message[..32].copy_from_slice(memory.salt());
-    message[32..40].copy_from_slice(&(group as u64).to_le_bytes());
-    message[40..44].copy_from_slice(&memory.count(group).to_le_bytes());
-    message[44..].copy_from_slice(page);
-    D::digest(&message)
-}
-
 /// What an accepted command does; `entry` is what an update stores.
-fn perform<D: Digest>(
-    memory: &mut Memory,
+fn perform<const COUNTS: usize, D: Digest>(
+    memory: &mut Memory<COUNTS>,
     disk: &mut [u8],
     c: &Command,
     entry: Option<Entry>,
     answer: &mut [u8; PROOF_SIZE],
 ) {
     if let Some(entry) = entry {
-        return change::<D>(memory, disk, c, entry, answer);
+        return change::<COUNTS, D>(memory, disk, c, entry, answer);
     }
     match c.kind {
         READ => name(answer, &disk[c.place()..][..BLOCK_SIZE]),
         ENTRY => show_entry(current_page(memory, disk, c.group()), c, answer),
-        PAGE => show_page::<D>(memory, disk, c.block as usize, answer),
+        PAGE => show_page::<COUNTS, D>(memory, disk, c.block as usize, answer),
         SYNC => sync(memory, disk, answer),
         RESTART => restart(memory, answer),
         NEW_SALT => {
@@ -205,25 +197,28 @@ fn perform<D: Digest>(
 }
 
 /// Fills the answer with what is named and then zeros.
+#[inline]
 fn name(answer: &mut [u8; PROOF_SIZE], named: &[u8]) {
     answer[..named.len()].copy_from_slice(named);
     answer[named.len()..].fill(0);
 }
 
 /// Where a group's page lies on the disk.
+#[inline]
 fn page_place(group: usize) -> Range<usize> {
     let end = GROUP_SIZE * (group + 1);
     end - PAGE_SIZE..end
 }
 
 #[inline]
-fn current_page<'a>(memory: &'a Memory, disk: &'a [u8], group: usize) -> &'a Page {
+fn current_page<'a, const COUNTS: usize>(memory: &'a Memory<COUNTS>, disk: &'a [u8], group: usize) -> &'a Page {
     if memory.held() == Some(group) {
         return memory.held_page();
     }
     (&disk[page_place(group)]).try_into().unwrap()
 }
 
+#[inline]
 fn show_entry(page: &Page, c: &Command, answer: &mut [u8; PROOF_SIZE]) {
     let entry = Entry::read(page, c.index());
     answer[..8].copy_from_slice(&entry.bytes());
@@ -232,16 +227,21 @@ fn show_entry(page: &Page, c: &Command, answer: &mut [u8; PROOF_SIZE]) {
     answer[17..].fill(0);
 }
 
-fn show_page<D: Digest>(memory: &Memory, disk: &[u8], group: usize, answer: &mut [u8; PROOF_SIZE]) {
+fn show_page<const COUNTS: usize, D: Digest>(
+    memory: &Memory<COUNTS>,
+    disk: &[u8],
+    group: usize,
+    answer: &mut [u8; PROOF_SIZE],
+) {
     let page = current_page(memory, disk, group);
     answer[..PAGE_SIZE].copy_from_slice(page);
-    answer[PAGE_SIZE..].copy_from_slice(&tag::<D>(memory, group, page));
+    answer[PAGE_SIZE..].copy_from_slice(&tag::<COUNTS, D>(memory, group, page));
 }
 
 /// An update: the held page of another group goes to the disk, a write's data are stored, and the
 /// changed page is held and answered. With its 64th update it leaves at once, as by a sync.
-fn change<D: Digest>(
-    memory: &mut Memory,
+fn change<const COUNTS: usize, D: Digest>(
+    memory: &mut Memory<COUNTS>,
     disk: &mut [u8],
     c: &Command,
     entry: Entry,
@@ -259,26 +259,26 @@ fn change<D: Digest>(
     entry.store(page, c.index());
     memory.raise_count(group);
     answer[..PAGE_SIZE].copy_from_slice(memory.held_page());
-    answer[PAGE_SIZE..].copy_from_slice(&tag::<D>(memory, group, memory.held_page()));
+    answer[PAGE_SIZE..].copy_from_slice(&tag::<COUNTS, D>(memory, group, memory.held_page()));
     if memory.updates() > MOST_UPDATES {
         put_held(memory, disk);
     }
 }
 
 /// The held page, if any, goes to the disk and is held no more.
-fn put_held(memory: &mut Memory, disk: &mut [u8]) {
+fn put_held<const COUNTS: usize>(memory: &mut Memory<COUNTS>, disk: &mut [u8]) {
     if let Some(group) = memory.held() {
         disk[page_place(group)].copy_from_slice(memory.held_page());
         memory.drop_held();
     }
 }
 
-fn sync(memory: &mut Memory, disk: &mut [u8], answer: &mut [u8; PROOF_SIZE]) {
+fn sync<const COUNTS: usize>(memory: &mut Memory<COUNTS>, disk: &mut [u8], answer: &mut [u8; PROOF_SIZE]) {
     put_held(memory, disk);
     answer.fill(0);
 }
 
-fn restart(memory: &mut Memory, answer: &mut [u8; PROOF_SIZE]) {
+fn restart<const COUNTS: usize>(memory: &mut Memory<COUNTS>, answer: &mut [u8; PROOF_SIZE]) {
     if let Some(group) = memory.held() {
         memory.raise_count(group);
         memory.drop_held();
@@ -286,7 +286,7 @@ fn restart(memory: &mut Memory, answer: &mut [u8; PROOF_SIZE]) {
     answer.fill(0);
 }
 
-fn identify(memory: &Memory, answer: &mut [u8; PROOF_SIZE]) {
+fn identify<const COUNTS: usize>(memory: &Memory<COUNTS>, answer: &mut [u8; PROOF_SIZE]) {
     let groups = memory.groups() as u32;
     answer[..4].copy_from_slice(&groups.to_le_bytes());
     answer[4..8].copy_from_slice(&(GROUP_DATA * groups).to_le_bytes());

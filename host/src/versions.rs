@@ -42,7 +42,7 @@ pub fn start(state: &mut [u8], lock: u32) -> u32 {
 }
 
 /// Stores a version of a part: its block.
-pub fn put<D: Digest>(
+pub fn put<const COUNTS: usize, D: Digest>(
     state: &mut [u8],
     memory: &mut [u8],
     disk: &mut [u8],
@@ -51,44 +51,50 @@ pub fn put<D: Digest>(
     content: &[u8],
 ) -> Result<u32, Refusal> {
     ask(part <= LAST_PART, 13)?;
-    let state = ask_state(state)?;
-    attempt(state, memory, disk, now, |state, trial| put_version::<D>(state, trial, part, content))
+    let state = ask_state::<COUNTS>(state)?;
+    attempt::<COUNTS, _>(state, memory, disk, now, |state, trial| put_version::<COUNTS, D>(state, trial, part, content))
 }
 
 /// Stores the log block with the records that there are, if any.
-pub fn flush<D: Digest>(state: &mut [u8], memory: &mut [u8], disk: &mut [u8], now: u32) -> Result<(), Refusal> {
-    let state = ask_state(state)?;
+pub fn flush<const COUNTS: usize, D: Digest>(
+    state: &mut [u8],
+    memory: &mut [u8],
+    disk: &mut [u8],
+    now: u32,
+) -> Result<(), Refusal> {
+    let state = ask_state::<COUNTS>(state)?;
     if state.pending() == 0 {
         return Ok(());
     }
-    attempt(state, memory, disk, now, |state, trial| store_log::<D>(state, trial, log_of(state.records())))
+    attempt::<COUNTS, _>(state, memory, disk, now, |state, trial| store_log::<COUNTS, D>(state, trial, log_of(state.records())))
 }
 
 /// The block of the part's newest version, or FF FF FF FF for none.
-pub fn block(state: &[u8], part: u32) -> Result<u32, u32> {
+pub fn block<const COUNTS: usize>(state: &[u8], part: u32) -> Result<u32, u32> {
     ask(part <= LAST_PART, 13)?;
-    let state = State::of(state).filter(|state| state.valid()).ok_or(1u32)?;
+    let state = State::of(state).filter(|state| state.valid::<COUNTS>()).ok_or(1u32)?;
     Ok(state.newest(part).unwrap_or(u32::MAX))
 }
 
+#[inline]
 fn ask(yes: bool, number: u32) -> Result<(), u32> {
     if yes { Ok(()) } else { Err(number) }
 }
 
 /// Question 1, of the state.
-fn ask_state(state: &mut [u8]) -> Result<&mut State, u32> {
-    State::of_mut(state).filter(|state| state.valid()).ok_or(1)
+fn ask_state<const COUNTS: usize>(state: &mut [u8]) -> Result<&mut State, u32> {
+    State::of_mut(state).filter(|state| state.valid::<COUNTS>()).ok_or(1)
 }
 
 /// Asks 1, 2, 4 and 14, and does the work. Where it is refused, state, memory and disk are as they were.
-fn attempt<T>(
+fn attempt<const COUNTS: usize, T>(
     state: &mut State,
     memory: &mut [u8],
     disk: &mut [u8],
     now: u32,
-    work: impl FnOnce(&mut State, &mut Trial) -> Result<T, Refusal>,
+    work: impl FnOnce(&mut State, &mut Trial<COUNTS>) -> Result<T, Refusal>,
 ) -> Result<T, Refusal> {
-    let blocks = ask_call(memory, disk, now)?;
+    let blocks = ask_call::<COUNTS>(memory, disk, now)?;
     let mut trial = Trial::new(memory, disk, blocks, now);
     ask(trial.two_free(state.reserve()), 14)?;
     let mut after = *state;
@@ -100,7 +106,12 @@ fn attempt<T>(
     done
 }
 
-fn put_version<D: Digest>(state: &mut State, trial: &mut Trial, part: u32, content: &[u8]) -> Result<u32, Refusal> {
+fn put_version<const COUNTS: usize, D: Digest>(
+    state: &mut State,
+    trial: &mut Trial<COUNTS>,
+    part: u32,
+    content: &[u8],
+) -> Result<u32, Refusal> {
     let block = allocate(state, trial);
     trial.update::<D>(WRITE, block, state.lock(), content)?;
     if let Some(replaced) = state.newest(part) {
@@ -114,12 +125,16 @@ fn put_version<D: Digest>(state: &mut State, trial: &mut Trial, part: u32, conte
     }
     let mut log = log_of(state.records());
     log[POINTER - RECORD_SIZE..POINTER].copy_from_slice(&record);
-    store_log::<D>(state, trial, log)?;
+    store_log::<COUNTS, D>(state, trial, log)?;
     Ok(block)
 }
 
 /// Stores the log block in the reserve, with a pointer to the next one.
-fn store_log<D: Digest>(state: &mut State, trial: &mut Trial, mut log: Log) -> Result<(), Refusal> {
+fn store_log<const COUNTS: usize, D: Digest>(
+    state: &mut State,
+    trial: &mut Trial<COUNTS>,
+    mut log: Log,
+) -> Result<(), Refusal> {
     let next = allocate(state, trial);
     log[POINTER..].copy_from_slice(&(next as u64).to_le_bytes());
     trial.update::<D>(WRITE, state.reserve(), state.lock(), &log)?;
@@ -128,15 +143,17 @@ fn store_log<D: Digest>(state: &mut State, trial: &mut Trial, mut log: Log) -> R
 }
 
 /// By question 14 there is one: a log block is stored behind one version, and an unfreeze takes no free block away.
-fn allocate(state: &State, trial: &Trial) -> u32 {
+fn allocate<const COUNTS: usize>(state: &State, trial: &Trial<COUNTS>) -> u32 {
     trial.next_free(state.last_taken(), state.reserve()).expect("a free block")
 }
 
+#[inline]
 fn record(part: u32, block: u32) -> [u8; RECORD_SIZE] {
     (part as u64 | (block as u64) << 32).to_le_bytes()
 }
 
 /// A log block of these records; those not used and the pointer are FF.
+#[inline]
 fn log_of(records: &[u8]) -> Log {
     let mut log = [0xFF; LOG_SIZE];
     log[..records.len()].copy_from_slice(records);

@@ -1,18 +1,19 @@
 //! Commands per second through the C interface, as a ratio to the host's controller, in one process
-//! and interleaved. Above 1.00 the archive is faster. And a command's cost in a box of 16 groups as
-//! a ratio to that in a box of one.
+//! and interleaved. Above 1.00 the archive is faster. And a command's cost in a box of 64 groups as
+//! a ratio to that in a box of one, with the limit that was set for it.
 //!
 //! Every command timed is an accepted one to a block of the box's last group. A round writes the 64
 //! blocks in turn with lock 0, grows their locks by 0, and unfreezes them, after which they are free
 //! again: so nothing is reset, and each update brings what the one before answered, in two buffers
 //! that change places. The page leaves by itself with the last of each 64, whose mean so includes it;
-//! the second table has what that adds. It is held again while the other kinds are timed. What is
-//! timed is the calls alone, each as who uses that controller makes it: the archive gets its arguments
-//! one by one, the host's controller a command at which it looks.
-use crate::median;
+//! the second table has what that adds. It is held again while the other kinds are timed; those that
+//! let it go are sent to copies of the memory, one each. What is timed is the calls alone, each as who
+//! uses that controller makes it: the archive gets its arguments one by one, the host's controller a
+//! command at which it looks.
+use crate::{aligned_disk, median};
 #[cfg(official)]
 use crate::official;
-use sockjade_host::controller::{self, Command, Digest, Message};
+use sockjade_host::controller::{self, Command, Digest, Memory, Message, PRESENT};
 use sockjade_host::archive;
 use std::hint::black_box;
 use std::ops::Range;
@@ -25,16 +26,22 @@ const NOW: u32 = 1000;
 const UPDATES: u32 = 64;
 
 /// Kinds in the order in which a round can send them, with the calls of one slice.
-const KINDS: [(u32, &str, u32); 6] = [
+const KINDS: [(u32, &str, u32); 10] = [
     (controller::WRITE, "write", UPDATES),
     (controller::INCREMENT, "increment", UPDATES),
     (controller::UNFREEZE, "unfreeze", UPDATES),
     (controller::READ, "read", 512),
     (controller::ENTRY, "entry", 512),
     (controller::PAGE, "page", 64),
+    (controller::IDENTIFY, "identify", 512),
+    (controller::SYNC, "sync", COPIES),
+    (controller::RESTART, "restart", COPIES),
+    (controller::NEW_SALT, "new salt", COPIES),
 ];
 /// How many of them are updates.
 const UPDATING: usize = 3;
+/// The memories of a slice of a kind that lets the page go.
+const COPIES: u32 = 64;
 
 /// A controller, as it is called in the loop that is timed.
 trait Controller {
@@ -62,7 +69,7 @@ impl Controller for Host {
 /// Apart from the loop, as the archive is.
 #[inline(never)]
 fn by_host(memory: &mut [u8], disk: &mut [u8], c: &Command, answer: &mut [u8]) -> u32 {
-    controller::command::<Tags>(memory, disk, c, answer)
+    controller::command::<PRESENT, Tags>(memory, disk, c, answer)
 }
 
 /// What the host's controller makes tags with: the official portable code where it is installed.
@@ -91,7 +98,8 @@ type Total = fn(&mut Timed, u32, Range<u32>) -> f64;
 struct Timed {
     total: Total,
     memory: Vec<u8>,
-    disk: Vec<u8>,
+    copies: Vec<Vec<u8>>,
+    disk: &'static mut [u8],
     group: u32,
     /// The current page of the group and its tag.
     current: Vec<u8>,
@@ -100,11 +108,12 @@ struct Timed {
 
 impl Timed {
     fn new(total: Total, groups: u32) -> Timed {
-        let mut memory = vec![0; 616];
-        let mut disk = vec![0x5A; 33_280 * groups as usize];
-        assert_eq!(controller::format(&mut memory, &mut disk, groups, &[7; 32]), 0);
+        let mut memory = vec![0; Memory::<PRESENT>::SIZE];
+        let disk = aligned_disk(groups as usize);
+        assert_eq!(controller::format::<PRESENT>(&mut memory, disk, groups, &[7; 32]), 0);
         let (current, answer) = (vec![0; 544], vec![0; 544]);
-        let mut made = Timed { total, memory, disk, group: groups - 1, current, answer };
+        let copies = vec![memory.clone(); COPIES as usize];
+        let mut made = Timed { total, memory, copies, disk, group: groups - 1, current, answer };
         made.slice(controller::PAGE, 1);
         std::mem::swap(&mut made.current, &mut made.answer);
         made
@@ -115,9 +124,10 @@ impl Timed {
         (self.total)(self, kind, 0..calls) / calls as f64
     }
 
-    /// No page is held, as at the start of a round.
+    /// No page is held, as at the start of a round: the box becomes the copy that was synced.
     fn sync(&mut self) {
         self.slice(controller::SYNC, 1);
+        self.memory.copy_from_slice(&self.copies[0]);
     }
 
     /// The group's page is held, and every block free.
@@ -131,13 +141,39 @@ impl Timed {
     fn leaving(&mut self, kind: u32) -> [f64; 3] {
         let (one, last) = (UPDATES - 2, UPDATES - 1);
         let times = [0..one, one..last, last..UPDATES].map(|calls| (self.total)(self, kind, calls));
-        assert_eq!(self.memory[101], 255, "the page has not left");
+        let memory = Memory::<PRESENT>::of(&self.memory).expect("a memory of its size");
+        assert_eq!(memory.held(), None, "the page has not left");
         times
     }
 }
 
-/// Nanoseconds for these calls, each to the next block of the group.
 fn total<C: Controller>(timed: &mut Timed, kind: u32, calls: Range<u32>) -> f64 {
+    match kind {
+        controller::SYNC | controller::RESTART | controller::NEW_SALT => total_of_copies::<C>(timed, kind, calls.len()),
+        _ => total_of_one::<C>(timed, kind, calls),
+    }
+}
+
+/// Nanoseconds for as many calls, each to a copy of the memory.
+fn total_of_copies<C: Controller>(timed: &mut Timed, kind: u32, calls: usize) -> f64 {
+    let Timed { memory, copies, disk, answer, .. } = timed;
+    copies.iter_mut().for_each(|copy| copy.copy_from_slice(memory));
+    let data: &[u8] = if kind == controller::NEW_SALT { &[9; 32] } else { &[] };
+    let (kind, now, data) = (black_box(kind), black_box(NOW), black_box(data));
+    let mut refused = 0;
+    let began = Instant::now();
+    for copy in &mut copies[..calls] {
+        let command = Command { kind, block: 0, now, value: 0, data, proof: &[] };
+        refused |= C::command(copy, disk, command, answer);
+        black_box(&answer);
+    }
+    let passed = began.elapsed().as_nanos() as f64;
+    assert_eq!(refused, 0, "kind {kind}");
+    passed
+}
+
+/// Nanoseconds for these calls, each to the next block of the group.
+fn total_of_one<C: Controller>(timed: &mut Timed, kind: u32, calls: Range<u32>) -> f64 {
     let update = (controller::WRITE..=controller::INCREMENT).contains(&kind);
     let data: &[u8] = if kind == controller::WRITE { &[0xA5; 512] } else { &[] };
     let (kind, now, value, data) = (black_box(kind), black_box(NOW), black_box(0), black_box(data));
@@ -147,7 +183,7 @@ fn total<C: Controller>(timed: &mut Timed, kind: u32, calls: Range<u32>) -> f64 
         let block = if kind == controller::PAGE { timed.group } else { 64 * timed.group + call % 64 };
         let proof: &[u8] = if update { &timed.current } else { &[] };
         let command = Command { kind, block, now, value, data, proof };
-        refused |= C::command(&mut timed.memory, &mut timed.disk, command, &mut timed.answer);
+        refused |= C::command(&mut timed.memory, timed.disk, command, &mut timed.answer);
         black_box(&timed.answer);
         if update {
             std::mem::swap(&mut timed.current, &mut timed.answer);
@@ -160,7 +196,6 @@ fn total<C: Controller>(timed: &mut Timed, kind: u32, calls: Range<u32>) -> f64 
 
 #[derive(Default)]
 struct Measured {
-    ours: Vec<f64>,
     to_host: Vec<f64>,
     to_one_group: Vec<f64>,
 }
@@ -172,7 +207,7 @@ pub fn run() {
 }
 
 fn rates() {
-    let mut boxes = [Timed::new(total::<Archive>, 1), Timed::new(total::<Host>, 1), Timed::new(total::<Archive>, 16)];
+    let mut boxes = [Timed::new(total::<Archive>, 1), Timed::new(total::<Host>, 1), Timed::new(total::<Archive>, 64)];
     let mut measured: [Measured; KINDS.len()] = Default::default();
     for _ in 0..ROUNDS {
         boxes.iter_mut().for_each(Timed::sync);
@@ -180,17 +215,15 @@ fn rates() {
             if place == UPDATING {
                 boxes.iter_mut().for_each(Timed::hold);
             }
-            let [one, host, sixteen] = boxes.each_mut().map(|timed| timed.slice(*kind, *calls));
-            m.ours.push(one);
+            let [one, host, most] = boxes.each_mut().map(|timed| timed.slice(*kind, *calls));
             m.to_host.push(host / one);
-            m.to_one_group.push(sixteen / one);
+            m.to_one_group.push(most / one);
         }
     }
-    println!("| command | per second | / host with {TAGS} | cost at 16 groups / at 1 |\n|---|---|---|---|");
+    println!("| command | / host with {TAGS} | cost at 64 groups / at 1 | at most |\n|---|---|---|---|");
     for ((_, name, _), m) in KINDS.iter().zip(&mut measured) {
-        let per_second = 1e9 / median(&mut m.ours);
         let (to_host, to_one) = (median(&mut m.to_host), median(&mut m.to_one_group));
-        println!("| {name} | {per_second:.0} | {to_host:.2} | {to_one:.2} |");
+        println!("| {name} | {to_host:.2} | {to_one:.2} | 1.1 |");
     }
 }
 

@@ -50,23 +50,21 @@ pub fn run() {
     if others.len() == 1 {
         println!("(the official C code is not installed: Debian's librust-blake3-dev)");
     }
-    print!("| bytes | MB/s |");
+    print!("| bytes |");
     others.iter().for_each(|(name, _)| print!(" / {name} |"));
-    println!("\n|---|---|{}", "---|".repeat(others.len()));
+    println!("\n|---|{}", "---|".repeat(others.len()));
     for length in LENGTHS {
         let input: Vec<u8> = (0..length).map(|i| (i % 251) as u8).collect();
         let calls = (20_000 / (length + 64)).max(1);
-        let mut own = Vec::new();
         let mut ratios = vec![Vec::new(); others.len()];
         for _ in 0..ROUNDS {
             for (ratio, (_, other)) in ratios.iter_mut().zip(&others) {
                 let a = time(ours, &input, calls);
                 let b = time(*other, &input, calls);
-                own.push(a);
                 ratio.push(b / a);
             }
         }
-        print!("| {length} | {:.0} |", length as f64 * 1000.0 / median(&mut own));
+        print!("| {length} |");
         ratios.iter_mut().for_each(|r| print!(" {:.2} |", median(r)));
         println!();
     }

@@ -1,12 +1,13 @@
 //! Lists per second through the C interface, in one process and interleaved: as a ratio to as many
 //! commands of kind 2 from the archive, and to the host's own list. Above 1.00 the archive's list is
-//! faster. And a list's cost in a box of 16 groups as a ratio to that in a box of one. Beside each
+//! faster. And a list's cost in a box of 64 groups as a ratio to that in a smaller one. Beside each
 //! ratio stands the limit that was set for it.
 //!
 //! All are accepted, at one time, so that nothing is reset; the blocks are in all three states. What
 //! is timed is the calls alone.
 use crate::median;
 use sockjade_host::checks::lists::{box_of, List, NONE, NOW};
+use sockjade_host::controller::PRESENT;
 use sockjade_host::{archive, controller};
 use std::hint::black_box;
 use std::time::Instant;
@@ -18,7 +19,7 @@ const GROUP: u32 = 5;
 type States = fn(&mut [u8], &[u8], &[u8], u32, &mut [u8]) -> u64;
 
 fn host(memory: &mut [u8], disk: &[u8], blocks: &[u8], now: u32, answer: &mut [u8]) -> u64 {
-    archive::outcome(controller::states(memory, disk, blocks, now, answer))
+    archive::outcome(controller::states::<PRESENT>(memory, disk, blocks, now, answer))
 }
 
 const PLACES: usize = 4096;
@@ -87,9 +88,9 @@ fn one_group(group: u32) -> Vec<u32> {
     (0..64).map(|i| 64 * group + i * 37 % 64).collect()
 }
 
-/// Four blocks of each of sixteen groups; neighbours in the list are in different ones.
-fn sixteen_groups() -> Vec<u32> {
-    (0..64).map(|i| 64 * (i * 7 % 16) + i).collect()
+/// As many blocks of each of these groups; neighbours in the list are in different ones.
+fn of_groups(groups: u32) -> Vec<u32> {
+    (0..64).map(|i| 64 * (i * 7 % groups) + i).collect()
 }
 
 pub fn run() {
@@ -100,32 +101,39 @@ pub fn run() {
 
 /// The archive's list against its entries, and against the host's list.
 fn rates() {
-    println!("| list, in a box of 16 groups | per second | / as many entries | at least | / host's list | at least |");
-    println!("|---|---|---|---|---|---|");
-    let lists = [("64 of one group", one_group(GROUP), "4.0"), ("64 of sixteen groups", sixteen_groups(), "1.3")];
-    for (name, numbers, limit) in lists.into_iter().chain([("one", vec![64 * GROUP + 9], "")]) {
+    println!("| list | / as many entries | at least | / host's list | at least |\n|---|---|---|---|---|");
+    let lists = [
+        ("64 of one group, in 16", 16, one_group(GROUP), "4.0"),
+        ("64 of sixteen groups, in 16", 16, of_groups(16), "1.3"),
+        ("64 of as many groups", 64, of_groups(64), ""),
+        ("one, in 16 groups", 16, vec![64 * GROUP + 9], ""),
+    ];
+    for (name, groups, numbers, limit) in lists {
         for (held, page) in [(GROUP as u8, "a page held"), (NONE, "none held")] {
-            let mut timed = Timed::new(16, held, &numbers);
-            let (mut ours, mut to_entries, mut to_host) = (Vec::new(), Vec::new(), Vec::new());
+            let mut timed = Timed::new(groups, held, &numbers);
+            let (mut to_entries, mut to_host) = (Vec::new(), Vec::new());
             for round in 0..ROUNDS {
                 let nanos = timed.listed(round, archive::states);
                 to_host.push(timed.listed(round, host) / nanos);
                 to_entries.push(timed.entries(round) / nanos);
-                ours.push(nanos);
             }
-            let [ours, entries, host] = [&mut ours, &mut to_entries, &mut to_host].map(|values| median(values));
-            println!("| {name}, {page} | {:.0} | {entries:.2} | {limit} | {host:.2} | 0.9 |", 1e9 / ours);
+            let [entries, host] = [&mut to_entries, &mut to_host].map(|values| median(values));
+            println!("| {name}, {page} | {entries:.2} | {limit} | {host:.2} | 0.9 |");
         }
     }
 }
 
-/// What a list in group 0 costs in a larger box.
+/// What a list costs in a box of 64 groups, against a smaller one that has its groups.
 fn costs() {
-    println!("| list in group 0 | cost at 16 groups / at 1 | at most |\n|---|---|---|");
-    for (name, numbers) in [("64", one_group(0)), ("one", vec![9])] {
+    println!("| list | cost at 64 groups | at most |\n|---|---|---|");
+    for (name, fewest, numbers) in [
+        ("64 of group 0, / at 1 group", 1, one_group(0)),
+        ("one of group 0, / at 1 group", 1, vec![9]),
+        ("64 of sixteen groups, / at 16 groups", 16, of_groups(16)),
+    ] {
         for (held, page) in [(0, "its page held"), (NONE, "none held")] {
-            let [mut one, mut sixteen] = [1, 16].map(|groups| Timed::new(groups, held, &numbers));
-            let cost = |round| sixteen.listed(round, archive::states) / one.listed(round, archive::states);
+            let [mut small, mut large] = [fewest, 64].map(|groups| Timed::new(groups, held, &numbers));
+            let cost = |round| large.listed(round, archive::states) / small.listed(round, archive::states);
             let mut costs: Vec<f64> = (0..ROUNDS).map(cost).collect();
             println!("| {name}, {page} | {:.2} | 1.1 |", median(&mut costs));
         }

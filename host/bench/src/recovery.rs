@@ -2,11 +2,11 @@
 //! faster. And what a log block costs in a long log as a ratio to that in a short one: the walk is to be linear in the log. Beside
 //! each ratio stands the limit that was set for it.
 //!
-//! The boxes are of 16 groups, and their logs a version store's, all of whose log blocks are full. A walk is as of the time of the last
+//! The boxes are of 16 groups and of 64, and their logs a version store's, all of whose log blocks are full. A walk is as of the time of the last
 //! put, at that time, so that it takes every record; nothing is reset, and what is timed is the calls alone.
 use crate::commands::Tags;
 use crate::median;
-use sockjade_host::controller::{self, Command, SYNC};
+use sockjade_host::controller::{self, Command, Memory, PRESENT, SYNC};
 use sockjade_host::{archive, recovery, versions};
 use std::hint::black_box;
 use std::time::Instant;
@@ -36,21 +36,22 @@ struct Timed {
 
 impl Timed {
     /// A store with this lock puts so many parts by turns, a second after the other, up to so many log blocks or until the box is full.
-    fn new(name: &'static str, lock: u32, parts: u32, most: usize) -> Timed {
-        let (mut state, mut memory, mut disk) = (vec![0; 1536], vec![0; 616], vec![0x5A; 16 * 33_280]);
-        assert_eq!(controller::format(&mut memory, &mut disk, 16, &[7; 32]), 0);
+    fn new(name: &'static str, groups: u32, lock: u32, parts: u32, most: usize) -> Timed {
+        let (mut state, mut memory) = (vec![0; 1536], vec![0; Memory::<PRESENT>::SIZE]);
+        let mut disk = vec![0x5A; 33_280 * groups as usize];
+        assert_eq!(controller::format::<PRESENT>(&mut memory, &mut disk, groups, &[7; 32]), 0);
         assert_eq!(versions::start(&mut state, lock), 0);
         let mut puts = 0;
         while puts < most * LOG_RECORDS {
             let (part, now) = (puts as u32 % parts, START + puts as u32);
-            if versions::put::<Tags>(&mut state, &mut memory, &mut disk, part, now, &[0xA5; 512]).is_err() {
+            if versions::put::<PRESENT, Tags>(&mut state, &mut memory, &mut disk, part, now, &[0xA5; 512]).is_err() {
                 break;
             }
             puts += 1;
         }
         let now = START + puts as u32;
         let sync = Command { kind: SYNC, block: 0, now, value: 0, data: &[], proof: &[] };
-        assert_eq!(controller::command::<Tags>(&mut memory, &mut disk, &sync, &mut [0; 544]), 0);
+        assert_eq!(controller::command::<PRESENT, Tags>(&mut memory, &mut disk, &sync, &mut [0; 544]), 0);
         let log = puts / LOG_RECORDS;
         Timed { name, memory, disk, now, log, calls: 640_usize.div_ceil(log), room: vec![0; PLACES + RESULT] }
     }
@@ -71,23 +72,25 @@ impl Timed {
 }
 
 pub fn run() {
-    let mut boxes = [Timed::new("short", 500_000, 200, SHORT), Timed::new("the longest that there can be", 1, 8, usize::MAX / LOG_RECORDS)];
-    let (mut ours, mut to_host) = ([(); 2].map(|()| Vec::new()), [(); 2].map(|()| Vec::new()));
-    let mut costs = Vec::new();
+    let longest = usize::MAX / LOG_RECORDS;
+    let mut boxes = [
+        Timed::new("16 groups, short", 16, 500_000, 200, SHORT),
+        Timed::new("16 groups, the longest that there can be", 16, 1, 8, longest),
+        Timed::new("64 groups, short", 64, 500_000, 200, SHORT),
+        Timed::new("64 groups, the longest that there can be", 64, 1, 8, longest),
+    ];
+    let [mut to_host, mut to_short] = [(); 2].map(|()| [const { Vec::new() }; 4]);
     for round in 0..ROUNDS {
+        let ours = boxes.each_mut().map(|timed| timed.walked(round, archive::recover));
+        let short = ours[0] / boxes[0].log as f64;
         for (place, timed) in boxes.iter_mut().enumerate() {
-            let nanos = timed.walked(round, archive::recover);
-            to_host[place].push(timed.walked(round, recovery::recover) / nanos);
-            ours[place].push(nanos);
+            to_host[place].push(timed.walked(round, recovery::recover::<PRESENT>) / ours[place]);
+            to_short[place].push(ours[place] / timed.log as f64 / short);
         }
-        let [short, long] = [0, 1].map(|place| ours[place][round] / boxes[place].log as f64);
-        costs.push(long / short);
     }
-    println!("| log, in a box of 16 groups | its blocks | walks per second | / host's walk | at least |\n|---|---|---|---|---|");
+    println!("| log | its blocks | / host's walk | at least | time for a log block / in the first |\n|---|---|---|---|---|");
     for (place, timed) in boxes.iter().enumerate() {
-        let [nanos, host] = [&mut ours[place], &mut to_host[place]].map(|values| median(values));
-        println!("| {} | {} | {:.0} | {host:.2} | 0.9 |", timed.name, timed.log, 1e9 / nanos);
+        let [host, short] = [&mut to_host[place], &mut to_short[place]].map(|values| median(values));
+        println!("| {} | {} | {host:.2} | 0.9 | {short:.2} |", timed.name, timed.log);
     }
-    println!("\n| walk | time for a log block / in the short log |\n|---|---|");
-    println!("| {} | {:.2} |", boxes[1].name, median(&mut costs));
 }

@@ -4,7 +4,7 @@ use crate::archive;
 /// A box of one or more groups with a zero salt, with the answer of the last command.
 #[derive(Clone)]
 pub struct Archive {
-    pub memory: [u8; 616],
+    pub memory: [u8; 808],
     pub disk: Vec<u8>,
     pub answer: [u8; 544],
 }
@@ -12,7 +12,7 @@ pub struct Archive {
 impl Archive {
     pub fn formatted(groups: u32) -> Result<Archive, String> {
         let mut made =
-            Archive { memory: [0xAA; 616], disk: vec![0xBB; 33_280 * groups as usize], answer: [0xCC; 544] };
+            Archive { memory: [0xAA; 808], disk: vec![0xBB; 33_280 * groups as usize], answer: [0xCC; 544] };
         let number = archive::format(&mut made.memory, &mut made.disk, groups, &[0; 32]);
         numbered(&format!("formatting {groups} groups"), number, 0)?;
         Ok(made)
@@ -22,8 +22,8 @@ impl Archive {
     /// bytes 44, and a new salt is 32 bytes 99.
     pub fn gets(&mut self, kind: u32, block: u32, now: u32, value: u32, number: u32) -> Result<(), String> {
         let mut proof = Vec::new();
-        if (4..=6).contains(&kind) && block < 64 * self.memory[100] as u32 {
-            let last = u32::from_le_bytes(self.memory[96..100].try_into().unwrap());
+        if (4..=6).contains(&kind) && block < 64 * self.memory[292] as u32 {
+            let last = u32::from_le_bytes(self.memory[288..292].try_into().unwrap());
             self.gets(3, block / 64, last, 0, 0)?;
             proof = self.answer.to_vec();
         }
@@ -49,7 +49,7 @@ impl Archive {
         let what = format!("the list {blocks:?} at {now}");
         let bytes: Vec<u8> = blocks.iter().flat_map(|block| block.to_le_bytes()).collect();
         let mut memory = self.memory;
-        memory[96..100].copy_from_slice(&now.to_le_bytes());
+        memory[288..292].copy_from_slice(&now.to_le_bytes());
         let answer = self.listed(&bytes, now, shown.len() * 9, Ok(pages))?;
         same(&what, &answer, shown.as_flattened())?;
         same(&format!("the memory after {what}"), &self.memory, &memory)
@@ -77,7 +77,7 @@ impl Archive {
 }
 
 /// A call answered this number, in all of its 32 bits.
-fn numbered(what: &str, got: u32, right: u32) -> Result<(), String> {
+pub fn numbered(what: &str, got: u32, right: u32) -> Result<(), String> {
     if got == right {
         return Ok(());
     }

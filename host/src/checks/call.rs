@@ -1,10 +1,10 @@
-//! A command to be sent, and what a tester who knows the memory and the disk can make of them. The
-//! places are written out from document 01 and not taken from the controller.
+//! A command to be sent, and what a tester who knows the memory and the disk can make of them, of either box.
+use super::places::{self, COUNTS};
 use crate::blake3;
 
 pub const LATEST: u32 = 2_147_483_647;
 pub const GROUP: usize = 33_280;
-pub const MEMORY: usize = 616;
+pub const MEMORY: usize = places::PRESENT.size;
 pub const ANSWER: usize = 544;
 /// Kinds that there are not.
 pub const UNKNOWN: [u32; 4] = [0, 11, 255, u32::MAX];
@@ -42,7 +42,7 @@ impl Call {
     pub fn good(kind: u32, block: u32, now: u32, value: u32, memory: &[u8], disk: &[u8]) -> Call {
         let mut call = Call::new(kind, block, now, value);
         let group = block as usize / 64;
-        if !call.proof.is_empty() && group < memory[100] as usize {
+        if !call.proof.is_empty() && group < places::groups(memory) {
             call.proof = proof(memory, group, page(memory, disk, group));
         }
         call
@@ -57,14 +57,10 @@ pub fn put_number(bytes: &mut [u8], at: usize, number: u32) {
     bytes[at..at + 4].copy_from_slice(&number.to_le_bytes());
 }
 
-pub fn last_time(memory: &[u8]) -> u32 {
-    number(memory, 96)
-}
-
 /// The group's current page.
 pub fn page<'a>(memory: &'a [u8], disk: &'a [u8], group: usize) -> &'a [u8] {
-    if memory[101] as usize == group {
-        return &memory[104..];
+    if places::held(memory) == group {
+        return &memory[places::of(memory).page..];
     }
     &disk[512 * (65 * group + 64)..][..512]
 }
@@ -74,7 +70,7 @@ pub fn proof(memory: &[u8], group: usize, page: &[u8]) -> Vec<u8> {
     let mut hasher = blake3::Hasher::default();
     hasher.update(&memory[..32]);
     hasher.update(&(group as u64).to_le_bytes());
-    hasher.update(&memory[32 + 4 * group..][..4]);
+    hasher.update(&memory[COUNTS + 4 * group..][..4]);
     hasher.update(page);
     [page, &hasher.finalize()].concat()
 }

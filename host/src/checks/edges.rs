@@ -5,7 +5,8 @@ use super::Checked;
 
 pub fn check() -> Checked {
     formatting()?;
-    places()?;
+    places(16, [(63, 63), (64, 65), (1023, 1038)], 1039)?;
+    places(64, [(1023, 1038), (1024, 1040), (4095, 4158)], 4159)?;
     entry()?;
     stored_expiry()?;
     zero_lock()?;
@@ -20,9 +21,9 @@ pub fn check() -> Checked {
 /// blank page, by b3sum.
 fn formatting() -> Result<(), String> {
     let mut a = Archive::formatted(1)?;
-    same("the formatted memory", &a.memory[..100], &[0; 100])?;
-    same("the formatted memory", &a.memory[100..104], &[1, 255, 0, 0])?;
-    same("the formatted memory", &a.memory[104..], &[0; 512])?;
+    same("the formatted memory", &a.memory[..292], &[0; 292])?;
+    same("the formatted memory", &a.memory[292..296], &[1, 255, 0, 0])?;
+    same("the formatted memory", &a.memory[296..], &[0; 512])?;
     same("the data blocks", &a.disk[..32_768], &[0xBB; 32_768])?;
     same("the blank page", &a.disk[32_768..], &[0, 0, 0, 0, 1, 0, 0, 0].repeat(64))?;
     a.gets(3, 0, 0, 0, 0)?;
@@ -39,16 +40,16 @@ const BLANK_TAG: [u8; 32] = [
     0x1D, 0x4C, 0x2B, 0xB2, 0xA0, 0x66, 0xCB, 0xA0, 0x55, 0xA9, 0x5F, 0x37, 0x07,
 ];
 
-/// 63 lies at 63, 64 at 65, 1,023 at 1,038; the page of group 15 at 1,039.
-fn places() -> Result<(), String> {
-    let mut a = Archive::formatted(16)?;
-    for (block, physical) in [(63, 63), (64, 65), (1023, 1038)] {
+/// Blocks and where they lie, and the last group's page: 63 lies at 63, 64 at 65, 1,023 at 1,038; the page of group 15 at 1,039.
+fn places(groups: u32, blocks: [(u32, usize); 3], last_page: usize) -> Result<(), String> {
+    let mut a = Archive::formatted(groups)?;
+    for (block, physical) in blocks {
         let before = a.disk.clone();
         a.gets(7, 0, 0, 0, 0)?;
         same(&format!("the block before {block} is written"), &a.disk[physical * 512..][..512], &[0xBB; 512])?;
         a.gets(4, block, 0, 0, 0)?;
         same(&format!("block {block}"), &a.disk[physical * 512..][..512], &[0x44; 512])?;
-        let changed = (0..1040).filter(|b| a.disk[b * 512..][..512] != before[b * 512..][..512]);
+        let changed = (0..=last_page).filter(|b| a.disk[b * 512..][..512] != before[b * 512..][..512]);
         let data: Vec<usize> = changed.filter(|b| b % 65 != 64).collect();
         if data != [physical] {
             return Err(format!("by hand: the write of {block} changed the data blocks {data:?}"));
@@ -56,9 +57,9 @@ fn places() -> Result<(), String> {
         a.gets(1, block, 0, 0, 0)?;
         same(&format!("what is read of {block}"), &a.answer[..512], &[0x44; 512])?;
     }
-    same("the last entry before the sync", &a.disk[1039 * 512 + 504..], &[0, 0, 0, 0, 1, 0, 0, 0])?;
+    same("the last entry before the sync", &a.disk[last_page * 512 + 504..], &[0, 0, 0, 0, 1, 0, 0, 0])?;
     a.gets(7, 0, 0, 0, 0)?;
-    same("the last entry of group 15's page", &a.disk[1039 * 512 + 504..], &[0, 0, 0, 0, 0, 0, 0, 0])
+    same("the last entry of the last group's page", &a.disk[last_page * 512 + 504..], &[0, 0, 0, 0, 0, 0, 0, 0])
 }
 
 /// Lock 500 written at 1000, unfrozen at 1200, counting to 1701, and grown by 100 in another box.

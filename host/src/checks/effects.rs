@@ -10,10 +10,10 @@ const NONE: [u8; 2] = [255, 0];
 /// The memory from the counts of the two groups on: counts, last time, G, held and the updates to the held page.
 fn memory(a: &Archive, counts: [u8; 2], time: u8, [held, updates]: [u8; 2]) -> Result<(), String> {
     same("the counts", &a.memory[32..40], &[counts[0], 0, 0, 0, counts[1], 0, 0, 0])?;
-    same("the other counts", &a.memory[40..96], &[0; 56])?;
-    same("time, G and held", &a.memory[96..104], &[time, 0, 0, 0, 2, held, updates, 0])?;
+    same("the other counts", &a.memory[40..288], &[0; 248])?;
+    same("time, G and held", &a.memory[288..296], &[time, 0, 0, 0, 2, held, updates, 0])?;
     if held == 255 {
-        same("the held page", &a.memory[104..], &[0; 512])?;
+        same("the held page", &a.memory[296..], &[0; 512])?;
     }
     Ok(())
 }
@@ -39,8 +39,8 @@ fn updates(a: &mut Archive) -> Result<(), String> {
     a.gets(4, 3, 100, 9, 0)?;
     memory(a, [1, 0], 100, [0, 1])?;
     pages(a, (3, BLANK), (0, BLANK))?;
-    same("the held entry", &a.memory[104 + 24..][..8], &[9, 0, 0, 0, 200, 0, 0, 0])?;
-    same("the page answered", &a.answer[..512], &a.memory[104..])?;
+    same("the held entry", &a.memory[296 + 24..][..8], &[9, 0, 0, 0, 200, 0, 0, 0])?;
+    same("the page answered", &a.answer[..512], &a.memory[296..])?;
     a.gets(6, 3, 101, 1, 0)?;
     memory(a, [2, 0], 101, [0, 2])?;
     pages(a, (3, BLANK), (0, BLANK))?;
@@ -67,10 +67,10 @@ fn looks(a: &mut Archive) -> Result<(), String> {
 fn clears(a: &mut Archive) -> Result<(), String> {
     for (kind, time) in [(7, 2_000_000_000), (8, 2_000_000_001)] {
         a.gets(4, 127, time, 0, 0)?;
-        same("the last byte held", &a.memory[615..], &[0xEE])?;
+        same("the last byte held", &a.memory[807..], &[0xEE])?;
         a.gets(5, 127, time, 0, 0)?;
         a.gets(kind, 0, time, 0, 0)?;
-        same("the held page", &a.memory[101..], &[&[255, 0, 0][..], &[0; 512]].concat())?;
+        same("the held page", &a.memory[293..], &[&[255, 0, 0][..], &[0; 512]].concat())?;
     }
     Ok(())
 }

@@ -5,9 +5,10 @@ pub mod hand;
 pub mod stores;
 pub mod turns;
 
-use super::call::{last_time, number, page, Call};
+use super::call::{number, page, Call};
 use super::lists::List;
 use super::pair::Pair;
+use super::places::{self, last_time};
 
 /// The tester's own count: the group whose page was held last, and its updates since it came in. It goes on where the page leaves
 /// by itself, at each multiple of 64.
@@ -39,11 +40,12 @@ impl Tally {
             0 => [255, 0, 0],
             updates => [self.group as u8, updates as u8, 0],
         };
-        let memory = pair.memory();
-        if memory[101..104] != right {
-            return Err(format!("command {}: both have {:?} from byte 101 on, not {right:?}", pair.index, &memory[101..104]));
+        let at = pair.model.places;
+        let (front, page) = pair.memory().split_at(at.page);
+        if front[at.held..] != right {
+            return Err(format!("command {}: both have {:?} from byte {} on, not {right:?}", pair.index, &front[at.held..], at.held));
         }
-        if right[0] == 255 && memory[104..] != [0; 512] {
+        if right[0] == 255 && page != [0; 512] {
             return Err(format!("command {}: both hold none, and a byte of its page is not zero", pair.index));
         }
         Ok(())
@@ -76,7 +78,7 @@ fn updated(pair: &mut Pair, tally: &mut Tally, group: u32, turn: u32) -> Result<
 /// The entries of every block, by lists, every page with its tag, and a block of each group. Nothing of it counts as an update.
 fn read_all(pair: &mut Pair, tally: &Tally) -> Result<(), String> {
     let now = last_time(pair.memory());
-    for group in 0..pair.memory()[100] as u32 {
+    for group in 0..places::groups(pair.memory()) as u32 {
         let blocks: Vec<u32> = (64 * group..64 * (group + 1)).collect();
         pair.expect_list(&List::new(&blocks, now), Ok(1))?;
         pair.expect(&Call::new(3, group, now, 0), 0)?;

@@ -1,9 +1,11 @@
 //! Times, blocks, counts, locks and values at their limits.
 use super::call::{even_page, put_number, Call, GROUP, LATEST, MEMORY};
 use super::pair::Pair;
+use super::places::PRESENT;
 use super::Checked;
 
 const HIGHEST_COUNT: u32 = u32::MAX - 1;
+const GROUPS: [u8; 14] = [1, 2, 3, 4, 8, 12, 15, 16, 17, 32, 33, 62, 63, 64];
 
 /// Kind, the entry's word and stamp, now and value, and the number by hand.
 const UPDATES: [(u32, u32, u32, u32, u32, u32); 24] = [
@@ -37,9 +39,9 @@ const UPDATES: [(u32, u32, u32, u32, u32, u32); 24] = [
 fn box_of(groups: u8, last_time: u32, word: u32, stamp: u32) -> (Vec<u8>, Vec<u8>) {
     let mut memory = vec![0; MEMORY];
     memory[..32].fill(9);
-    memory[100] = groups;
-    memory[101] = 255;
-    put_number(&mut memory, 96, last_time);
+    memory[PRESENT.groups] = groups;
+    memory[PRESENT.held] = 255;
+    put_number(&mut memory, PRESENT.last_time, last_time);
     let mut disk = vec![0xB0; GROUP * groups as usize];
     for group in disk.chunks_exact_mut(GROUP) {
         group[GROUP - 512..].copy_from_slice(&even_page(word, stamp));
@@ -55,7 +57,7 @@ fn fitting(kind: u32) -> (u32, u32) {
 pub fn check(pair: &mut Pair) -> Checked {
     let start = pair.index;
     times(pair)?;
-    (1..=16).try_for_each(|groups| blocks(pair, groups))?;
+    GROUPS.into_iter().try_for_each(|groups| blocks(pair, groups))?;
     for count in [0, 1, 2, HIGHEST_COUNT - 2, HIGHEST_COUNT - 1, HIGHEST_COUNT, u32::MAX] {
         counts(pair, count)?;
     }
@@ -92,7 +94,7 @@ fn blocks(pair: &mut Pair, groups: u8) -> Result<(), String> {
     let end = 64 * groups as u32;
     let (memory, disk) = box_of(groups, 7, 5, 0);
     pair.load(&memory, &disk);
-    for block in [0, 63, 64, 65, end - 1, end, end + 1, 1023, 1024, 1 << 31, u32::MAX] {
+    for block in [0, 63, 64, 65, end - 1, end, end + 1, 1023, 1024, 4095, 4096, 1 << 31, u32::MAX] {
         for kind in [1, 2, 6, 5] {
             let call = pair.good(kind, block, 7, 0);
             pair.expect(&call, if block < end { 0 } else { 5 })?;
@@ -105,7 +107,7 @@ fn blocks(pair: &mut Pair, groups: u8) -> Result<(), String> {
         }
         pair.load(&memory, &disk);
     }
-    for group in [0, 1, groups as u32 - 1, groups as u32, 15, 16, 64, 255, 256, u32::MAX] {
+    for group in [0, 1, groups as u32 - 1, groups as u32, 15, 16, 63, 64, 255, 256, u32::MAX] {
         pair.expect(&Call::new(3, group, 7, 0), if group < groups as u32 { 0 } else { 5 })?;
     }
     Ok(())
@@ -131,11 +133,11 @@ fn counts(pair: &mut Pair, count: u32) -> Result<(), String> {
         let call = pair.good(kind, 102, 52, 3);
         pair.expect(&call, 0)?;
         if (1..=HIGHEST_COUNT).contains(&count) {
-            memory[101] = 1;
-            memory[104..].copy_from_slice(&even_page(word, stamp));
+            memory[PRESENT.held] = 1;
+            memory[PRESENT.page..].copy_from_slice(&even_page(word, stamp));
             // Behind the update the page is still held; or it has left.
             for updates in [1, 63] {
-                memory[102] = updates;
+                memory[PRESENT.updates] = updates;
                 pair.load(&memory, &disk);
                 let call = pair.good(kind, 100, 50, 3);
                 pair.expect(&call, if count < HIGHEST_COUNT { 0 } else { 8 })?;

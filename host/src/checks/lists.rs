@@ -8,10 +8,11 @@ pub mod states;
 
 use super::call::{put_number, Call, GROUP, MEMORY};
 use super::pair::Pair;
+use super::places::{COUNTS, PRESENT};
 use std::collections::BTreeSet;
 
 const LAST_TIME: u32 = 1000;
-pub const NOW: u32 = 5000;
+pub const NOW: u32 = 20_000;
 pub const NONE: u8 = 255;
 /// The updates to a held page.
 const UPDATES: u8 = 63;
@@ -52,16 +53,16 @@ pub fn box_of(groups: usize, held: u8) -> (Vec<u8>, Vec<u8>) {
     let mut memory = vec![0; MEMORY];
     let mut disk: Vec<u8> = (0..groups * GROUP).map(|i| (i % 251) as u8).collect();
     (0..32).for_each(|i| memory[i] = i as u8 + 1);
-    (0..groups).for_each(|group| put_number(&mut memory, 32 + 4 * group, group as u32 + 1));
-    put_number(&mut memory, 96, LAST_TIME);
-    memory[100] = groups as u8;
-    memory[101] = held;
+    (0..groups).for_each(|group| put_number(&mut memory, COUNTS + 4 * group, group as u32 + 1));
+    put_number(&mut memory, PRESENT.last_time, LAST_TIME);
+    memory[PRESENT.groups] = groups as u8;
+    memory[PRESENT.held] = held;
     for (group, stretch) in disk.chunks_exact_mut(GROUP).enumerate() {
         fill_page(&mut stretch[GROUP - 512..], group as u32, 0);
     }
     if held != NONE {
-        memory[102] = UPDATES;
-        fill_page(&mut memory[104..], held as u32, 1);
+        memory[PRESENT.updates] = UPDATES;
+        fill_page(&mut memory[PRESENT.page..], held as u32, 1);
     }
     (memory, disk)
 }
@@ -69,7 +70,7 @@ pub fn box_of(groups: usize, held: u8) -> (Vec<u8>, Vec<u8>) {
 fn fill_page(page: &mut [u8], group: u32, turn: u32) {
     for (index, entry) in page.chunks_exact_mut(8).enumerate() {
         let block = 64 * group + index as u32;
-        let own = block + 2000 * turn;
+        let own = block + 5000 * turn;
         let (word, flag) = match (block + turn) % 3 {
             0 => (500 + own, 0),
             1 => (NOW + 1 + own, 1),

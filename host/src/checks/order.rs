@@ -24,11 +24,11 @@ pub fn check(pair: &mut Pair) -> Checked {
 /// Formatting: the questions 1, 2 and 6.
 pub fn check_formatting(pair: &mut Pair) -> Checked {
     let start = pair.index;
-    for groups in [0, 1, 2, 3, 15, 16, 17, 255, 256, 257, u32::MAX] {
-        for memory in [0, 1, 615, 616, 617, 1232] {
+    for groups in [0, 1, 2, 3, 16, 17, 63, 64, 65, 66, 128, 255, 256, 257, 320, u32::MAX] {
+        for memory in [0, 1, 616, 807, 808, 809, 1616] {
             for disk in disks(groups) {
                 for salt in [0, 1, 31, 32, 33, 64] {
-                    let number = if memory != 616 || !(1..=16).contains(&groups) {
+                    let number = if memory != 808 || !(1..=64).contains(&groups) {
                         1
                     } else if disk != groups as usize * 33_280 {
                         2
@@ -53,8 +53,8 @@ fn disks(groups: u32) -> Vec<usize> {
             let right = groups as usize * 33_280;
             vec![0, 1, right - 1, right, right + 1, right + 33_280]
         }
-        15 | 16 => vec![groups as usize * 33_280],
-        17 => vec![0, 17 * 33_280],
+        16..=64 => vec![groups as usize * 33_280],
+        65 => vec![0, 65 * 33_280],
         _ => vec![0, 33_280],
     }
 }

@@ -1,7 +1,8 @@
 //! Pages that are not the current one: stale, of another group or box, damaged. All get 7, but for a
 //! page whose tag fits: the tester knows the salt.
-use super::call::{even_page, last_time, proof, put_number, Call};
+use super::call::{even_page, proof, put_number, Call};
 use super::pair::Pair;
+use super::places::{last_time, PRESENT};
 use super::Checked;
 
 /// An update of `block` with another page and tag than the current ones.
@@ -111,7 +112,7 @@ fn lost(pair: &mut Pair) -> Result<(), String> {
     for count in [0, 2, 0x100, 0x0100_0000, u32::MAX] {
         let mut memory = pair.memory().to_vec();
         put_number(&mut memory, 32, count);
-        let page = memory[104..].to_vec();
+        let page = memory[PRESENT.page..].to_vec();
         pair.expect(&with_proof(4, 2, 0, &proof(&memory, 0, &page)), 7)?;
     }
     Ok(())

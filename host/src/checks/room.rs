@@ -4,6 +4,7 @@ const CANARY: u8 = 0xC5;
 pub const GUARD: usize = 128;
 const ALIGNMENT: usize = 64;
 
+#[derive(Clone)]
 pub struct Room {
     whole: Vec<u8>,
     start: usize,

@@ -1,6 +1,7 @@
-//! Random runs: boxes of 1 to 16 groups, mostly of few, each with a long run of commands and lists.
-use super::call::{put_number, GROUP, LATEST, MEMORY};
+//! Random runs: boxes of any number of groups, mostly of few, each with a long run of commands and lists.
+use super::call::{put_number, GROUP, LATEST};
 use super::pair::Pair;
+use super::places::COUNTS;
 use super::server::Server;
 use super::Checked;
 use crate::random::Random;
@@ -14,9 +15,10 @@ pub fn check(pair: &mut Pair, seed: u64, count: usize) -> Checked {
     let mut old = Vec::new();
     let (mut sent, mut boxes, mut left) = (0, 0, 0);
     while sent < count {
-        start(pair, &mut random)?;
-        let few = if pair.disk().len() > 4 * GROUP { COMMANDS / 4 } else { COMMANDS };
-        let run = few.min(count - sent);
+        let any = 1 + random.below(pair.model.most_groups);
+        let groups = [1, 1, 1, 1, 2, 2, 2, 3, 3, any][random.below(10)];
+        start(pair, &mut random, groups)?;
+        let run = commands(groups).min(count - sent);
         let mut server = Server::new(pair, &mut random, &mut old);
         (0..run).try_for_each(|_| server.step())?;
         left += server.left;
@@ -29,24 +31,31 @@ pub fn check(pair: &mut Pair, seed: u64, count: usize) -> Checked {
     Ok(format!("runs: {sent} commands and lists to {boxes} boxes, {left} pages that left by themselves"))
 }
 
+/// Fewer where the disk to be compared is long.
+fn commands(groups: usize) -> usize {
+    match groups {
+        1..=4 => COMMANDS,
+        5..=16 => COMMANDS / 4,
+        _ => COMMANDS / 16,
+    }
+}
+
 /// A formatted box. In some the last time or the counts are near their end, or the pages have
 /// entries of any bytes.
-fn start(pair: &mut Pair, random: &mut Random) -> Result<(), String> {
-    let groups = [1, 1, 1, 1, 2, 2, 2, 3, 3, 1 + random.below(16)][random.below(10)];
+pub fn start(pair: &mut Pair, random: &mut Random, groups: usize) -> Result<(), String> {
     let mut disk = vec![0; GROUP * groups];
     random.fill(&mut disk[..GROUP]);
     let mut salt = [0; 32];
     random.fill(&mut salt);
-    pair.load(&[random.next() as u8; MEMORY], &disk);
-    pair.expect_format(groups as u32, &salt, 0)?;
+    pair.load_formatted_over(&disk, random.next() as u8, groups as u32, &salt)?;
     let mut memory = pair.memory().to_vec();
     let mut disk = pair.disk().to_vec();
     if random.below(6) == 0 {
-        put_number(&mut memory, 96, LATEST - random.below(4000) as u32);
+        put_number(&mut memory, pair.model.places.last_time, LATEST - random.below(4000) as u32);
     }
     if random.below(4) == 0 {
         for group in 0..groups {
-            put_number(&mut memory, 32 + 4 * group, u32::MAX - random.below(40) as u32);
+            put_number(&mut memory, COUNTS + 4 * group, u32::MAX - random.below(40) as u32);
         }
     }
     if random.below(4) == 0 {

@@ -3,8 +3,9 @@
 mod lists;
 pub use lists::numbers;
 
-use super::call::{last_time, number, page, proof, Call, LATEST, UNKNOWN};
+use super::call::{number, page, proof, Call, LATEST, UNKNOWN};
 use super::pair::Pair;
+use super::places::{self, last_time, COUNTS};
 use super::room::GUARD;
 use crate::random::Random;
 
@@ -20,8 +21,8 @@ const KEPT: usize = 24;
 const LIST_EVERY: usize = 12;
 
 pub struct Server<'a> {
-    pair: &'a mut Pair,
-    random: &'a mut Random,
+    pub pair: &'a mut Pair,
+    pub random: &'a mut Random,
     groups: usize,
     /// Each group's page and tag as last answered, while they are current.
     pages: Vec<Option<Vec<u8>>>,
@@ -35,7 +36,7 @@ pub struct Server<'a> {
 
 impl<'a> Server<'a> {
     pub fn new(pair: &'a mut Pair, random: &'a mut Random, old: &'a mut Vec<Vec<u8>>) -> Self {
-        let groups = pair.memory()[100] as usize;
+        let groups = places::groups(pair.memory());
         let forgetful = (random.below(2) == 0).then_some(groups - 1);
         Server { pair, random, groups, pages: vec![None; groups], old, forgetful, left: 0 }
     }
@@ -71,7 +72,7 @@ impl<'a> Server<'a> {
         match call.kind {
             3 => self.renew(call.block as usize),
             4..=6 => {
-                self.left += usize::from(self.pair.memory()[101] == 255);
+                self.left += usize::from(places::held(self.pair.memory()) == 255);
                 self.renew(call.block as usize / 64);
             }
             8 | 9 => (0..self.groups).for_each(|group| self.forget(group)),
@@ -175,7 +176,7 @@ impl<'a> Server<'a> {
             3 => call.block = self.block(),
             4 => call.block = self.random.below(64 * self.groups) as u32,
             5 => call.value = LIMITS[self.random.below(LIMITS.len())],
-            6 => call.memory_len = Some(self.length(616, 616 + GUARD)),
+            6 => call.memory_len = Some(self.length(self.pair.memory().len(), self.pair.memory().len() + GUARD)),
             7 => call.disk_len = Some(self.disk_length()),
             8 => call.answer_len = self.length(544, 700),
             9 => call.data.resize(self.length(call.data.len(), 600), 1),
@@ -185,10 +186,20 @@ impl<'a> Server<'a> {
             13 => call.proof = self.pages[self.random.below(self.groups)].clone().unwrap_or_default(),
             14 | 15 if (4..=6).contains(&call.kind) => self.forge(call),
             16 => *call = self.present_salt(),
-            17 => return Some((96 + self.random.below(8), 1 << self.random.below(8))),
-            _ => return Some((32 + self.random.below(616 - 32), 1 << self.random.below(8))),
+            17 => return Some(self.header_bit()),
+            _ => return Some(self.memory_bit()),
         }
         None
+    }
+
+    /// A bit of the fields from the last time on, up to the held page.
+    fn header_bit(&mut self) -> (usize, u8) {
+        (self.pair.model.places.last_time + self.random.below(8), 1 << self.random.below(8))
+    }
+
+    /// A bit behind the salt.
+    fn memory_bit(&mut self) -> (usize, u8) {
+        (COUNTS + self.random.below(self.pair.memory().len() - COUNTS), 1 << self.random.below(8))
     }
 
     fn time(&mut self) -> u32 {
@@ -199,7 +210,7 @@ impl<'a> Server<'a> {
 
     fn block(&mut self) -> u32 {
         let end = 64 * self.groups as u32;
-        let list = [0, 63, 64, end - 1, end, end + 1, end / 64, 1023, 1024, u32::MAX];
+        let list = [0, 63, 64, end - 1, end, end + 1, end / 64, 1023, 1024, 4095, 4096, u32::MAX];
         list[self.random.below(list.len())]
     }
 
@@ -217,7 +228,8 @@ impl<'a> Server<'a> {
 
     fn disk_length(&mut self) -> usize {
         let right = self.pair.disk().len();
-        [0, 1, right - 33_280, right - 512, right - 1, right + 1, right + GUARD][self.random.below(7)]
+        let shorter = |by: usize| right.saturating_sub(by);
+        [0, 1, shorter(33_280), shorter(512), shorter(1), right + 1, right + GUARD][self.random.below(7)]
     }
 
     fn flip(&mut self, bytes: &mut [u8]) {

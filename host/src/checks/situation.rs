@@ -1,5 +1,6 @@
 //! A box of two groups and a command to it that passes, or one to which chosen questions say no.
 use super::call::{put_number, Call, GROUP, MEMORY, UNKNOWN};
+use super::places::PRESENT;
 
 /// The block that the commands name, in group 1, and the group for kind 3.
 const BLOCK: u32 = 70;
@@ -85,14 +86,14 @@ fn box_of(kind: u32, held: u8, no: Questions) -> (Vec<u8>, Vec<u8>) {
     (0..32).for_each(|i| memory[i] = i as u8 + 1);
     put_number(&mut memory, 32, 5);
     put_number(&mut memory, 36, if no.has(8) { HIGHEST_COUNT } else { 7 });
-    put_number(&mut memory, 96, LAST_TIME);
-    memory[100] = 2;
-    memory[101] = held;
+    put_number(&mut memory, PRESENT.last_time, LAST_TIME);
+    memory[PRESENT.groups] = 2;
+    memory[PRESENT.held] = held;
     if held != 255 {
-        memory[102] = UPDATES;
-        memory[104..].copy_from_slice(&[0xE1; 512]);
+        memory[PRESENT.updates] = UPDATES;
+        memory[PRESENT.page..].copy_from_slice(&[0xE1; 512]);
     }
-    let page = if held == 1 { &mut memory[104..] } else { &mut disk[129 * 512..] };
+    let page = if held == 1 { &mut memory[PRESENT.page..] } else { &mut disk[129 * 512..] };
     let (word, stamp) = entry(kind, no);
     put_number(page, 8 * (BLOCK as usize % 64), word);
     put_number(page, 8 * (BLOCK as usize % 64) + 4, stamp);
@@ -133,7 +134,7 @@ fn spoil_early(made: &mut Situation, no: Questions, turn: usize) {
         call.disk_len = Some([made.disk.len() - 1, made.disk.len() + 1][turn % 2]);
     }
     if no.has(1) {
-        // More updates than a held page can have, some where none is held; or byte 103.
-        made.memory[102 + turn % 2] += 1;
+        // More updates than a held page can have, some where none is held; or the byte behind them.
+        made.memory[PRESENT.updates + turn % 2] += 1;
     }
 }

@@ -1,5 +1,7 @@
 //! How much stack the archive needs: a call runs on a painted piece of memory as its stack, and the
 //! lowest byte that changed tells. (A thread would not do: asked for 16 KiB, it may get 24.)
+use super::call::Call;
+use super::lists::{box_of, List, NOW};
 use super::situation::{situation, Questions, Situation, HELD};
 use super::Checked;
 use crate::archive;
@@ -32,7 +34,36 @@ pub fn check() -> Checked {
         }
         most = most.max(used);
     }
-    Ok(format!("{most} bytes of stack"))
+    Ok(format!("{} bytes of stack", most.max(largest(&mut paint)?)))
+}
+
+/// Each kind to the last block of a box of 64 groups with another group's page held, and a list that names every group; and formatting.
+fn largest(paint: &mut [u8]) -> Result<usize, String> {
+    let (memory, mut disk) = box_of(64, 0);
+    let every_group: Vec<u32> = (0..64).map(|group| 64 * group + group).collect();
+    let list = List::new(&every_group, NOW);
+    let (mut answer, mut shown, mut most) = ([0; 544], [0; 576], 0);
+    for kind in 1..=10 {
+        let mut memory = memory.clone();
+        // The group, a free block, a frozen one.
+        let block = match kind {
+            3 => 63,
+            4 => 4094,
+            _ => 4095,
+        };
+        let Call { now, value, data, proof, .. } = Call::good(kind, block, NOW, 1, &memory, &disk);
+        let mut numbers = [9; 3];
+        let used = used(paint, &mut || {
+            numbers[0] = archive::command(&mut memory, &mut disk, kind, block, now, value, &data, &proof, &mut answer);
+            numbers[1] = archive::states(&mut memory, &disk, &list.blocks, NOW, &mut shown) as u32;
+            numbers[2] = archive::format(&mut memory, &mut disk.clone(), 64, &[1; 32]);
+        });
+        if numbers != [0; 3] || used > MOST {
+            return Err(format!("stack: 64 groups, kind {kind}, a list and formatting answered {numbers:?} and needed {used} bytes"));
+        }
+        most = most.max(used);
+    }
+    Ok(most)
 }
 
 /// The bytes of stack that `call` needs.

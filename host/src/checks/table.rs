@@ -12,46 +12,67 @@ const LIST: usize = 12;
 const NUMBERS: usize = 13;
 
 #[derive(Default)]
-pub struct Table([[u64; NUMBERS]; ROWS.len()]);
+pub struct Table {
+    numbers: [[u64; NUMBERS]; ROWS.len()],
+    /// How many were accepted with none held and with a page.
+    accepted: [[u64; 2]; ROWS.len()],
+}
 
 impl Table {
-    pub fn command(&mut self, kind: u32, number: u32) {
+    pub fn command(&mut self, kind: u32, number: u32, held: bool) {
         let row = if (1..=10).contains(&kind) { kind as usize - 1 } else { UNKNOWN };
-        self.0[row][number as usize] += 1;
+        self.count(row, number, held);
     }
 
     pub fn formatting(&mut self, number: u32) {
-        self.0[FORMATTING][number as usize] += 1;
+        self.numbers[FORMATTING][number as usize] += 1;
     }
 
-    pub fn list(&mut self, number: u32) {
-        self.0[LIST][number as usize] += 1;
+    pub fn list(&mut self, number: u32, held: bool) {
+        self.count(LIST, number, held);
+    }
+
+    fn count(&mut self, row: usize, number: u32, held: bool) {
+        self.numbers[row][number as usize] += 1;
+        self.accepted[row][usize::from(held)] += u64::from(number == 0);
     }
 
     pub fn lists(&self) -> u64 {
-        self.0[LIST].iter().sum()
+        self.numbers[LIST].iter().sum()
     }
 
     pub fn print(&self) {
         print!("{:12}", "");
         (0..NUMBERS).for_each(|number| print!("{number:>8}"));
         println!();
-        for (name, row) in ROWS.iter().zip(&self.0) {
+        for (name, row) in ROWS.iter().zip(&self.numbers) {
             print!("{name:12}");
             row.iter().for_each(|count| print!("{count:>8}"));
             println!();
         }
     }
 
-    /// Every pair that can occur did, and no other.
+    /// Every pair that can occur did, and no other; and each kind was accepted with a page held and with none.
     pub fn check(&self) -> Result<String, String> {
+        self.check_rows(|_| true)
+    }
+
+    /// The same of boxes that were not formatted by the archive.
+    pub fn check_migrated(&self) -> Result<String, String> {
+        self.check_rows(|row| row != FORMATTING)
+    }
+
+    fn check_rows(&self, mut counted: impl FnMut(usize) -> bool) -> Result<String, String> {
         let mut occurred = 0;
-        for (row, name) in ROWS.iter().enumerate() {
-            for (number, &count) in self.0[row].iter().enumerate() {
+        for (row, name) in ROWS.iter().enumerate().filter(|(row, _)| counted(*row)) {
+            for (number, &count) in self.numbers[row].iter().enumerate() {
                 if possible(row, number) != (count > 0) {
                     return Err(format!("{name} got {number} {count} times"));
                 }
                 occurred += usize::from(count > 0);
+            }
+            if row != UNKNOWN && row != FORMATTING && self.accepted[row].contains(&0) {
+                return Err(format!("{name} was accepted {:?} times with none held and with a page", self.accepted[row]));
             }
         }
         Ok(format!("all {occurred} pairs of kind and number, {} lists", self.lists()))

@@ -2,31 +2,34 @@
 use super::call::{put_number, Call, LATEST, UNKNOWN};
 use super::lists::List;
 use super::pair::Pair;
+use super::places::{COUNTS, PRESENT};
 use super::situation::{situation, Questions, NOW};
 use super::Checked;
 
 /// A place of the memory, how many bytes are put there, the number, and whether it stays valid.
 pub type Change = (usize, usize, u32, bool);
 
-const TIMES: [Change; 5] =
-    [(96, 4, 0, true), (96, 4, NOW, true), (96, 4, LATEST, true), (96, 4, LATEST + 1, false), (96, 4, u32::MAX, false)];
+const TIMES: [Change; 5] = [
+    (288, 4, 0, true), (288, 4, NOW, true), (288, 4, LATEST, true), (288, 4, LATEST + 1, false), (288, 4, u32::MAX, false),
+];
 
-/// About the limits of byte 102, and numbers that have one of them in their low bits.
+/// About the limits of the updates, and numbers that have one of them in their low bits.
 const UPDATES: [u8; 14] = [0, 1, 2, 62, 63, 64, 65, 127, 128, 129, 191, 192, 254, 255];
 
-/// With G 2: no number of groups but 1 to 16. (With another the disk's length is wrong.)
-const GROUPS: [Change; 5] =
-    [(100, 1, 0, false), (100, 1, 17, false), (100, 1, 18, false), (100, 1, 128, false), (100, 1, 255, false)];
+/// With G 2: no number of groups but 1 to 64. (With another the disk's length is wrong.)
+const GROUPS: [Change; 6] = [
+    (292, 1, 0, false), (292, 1, 65, false), (292, 1, 66, false), (292, 1, 128, false), (292, 1, 129, false), (292, 1, 255, false),
+];
 
 /// With G 2 and group 1 held, whose count is at 36.
-const HELD: [Change; 12] = [
-    (101, 1, 0, true), (101, 1, 1, true), (101, 1, 2, false), (101, 1, 3, false), (101, 1, 16, false),
-    (101, 1, 254, false), (36, 4, 0, false), (36, 4, 1, true), (36, 4, u32::MAX - 1, true), (36, 4, u32::MAX, false),
+const HELD: [Change; 13] = [
+    (293, 1, 0, true), (293, 1, 1, true), (293, 1, 2, false), (293, 1, 3, false), (293, 1, 16, false), (293, 1, 64, false),
+    (293, 1, 254, false), (36, 4, 0, false), (36, 4, 1, true), (36, 4, u32::MAX - 1, true), (36, 4, u32::MAX, false),
     (32, 4, 0, true), (32, 4, u32::MAX, true),
 ];
 
 /// With G 2 and none held: the counts below G are free.
-const COUNTS: [Change; 4] = [(32, 4, 0, true), (32, 4, u32::MAX, true), (36, 4, 0, true), (36, 4, u32::MAX, true)];
+const NONE_HELD: [Change; 4] = [(32, 4, 0, true), (32, 4, u32::MAX, true), (36, 4, 0, true), (36, 4, u32::MAX, true)];
 
 pub fn check(pair: &mut Pair) -> Checked {
     let start = pair.index;
@@ -40,19 +43,19 @@ pub fn check(pair: &mut Pair) -> Checked {
 
 /// With G 2 and group 1 held, or none: the changes to each clause but Q-4's.
 pub fn changes(held: u8) -> Vec<Change> {
-    let of_held = if held == 1 { HELD.as_slice() } else { COUNTS.as_slice() };
+    let of_held = if held == 1 { HELD.as_slice() } else { NONE_HELD.as_slice() };
     let mut list = [TIMES.as_slice(), GROUPS.as_slice(), of_held].concat();
-    list.extend((40..96).flat_map(|at| [(at, 1, 1, false), (at, 1, 128, false)]));
-    list.extend((104..616).flat_map(|at| [(at, 1, 1, held == 1), (at, 1, 128, held == 1)]));
+    list.extend((40..288).flat_map(|at| [(at, 1, 1, false), (at, 1, 128, false)]));
+    list.extend((296..808).flat_map(|at| [(at, 1, 1, held == 1), (at, 1, 128, held == 1)]));
     list.extend((0..32).map(|at| (at, 1, 200, true)));
     list
 }
 
-/// Document 02's Q-4: byte 102 is 1 to 63 with a page held and 0 with none, and byte 103 is 0. A box whose page is held from before
+/// Document 02's Q-4: byte 294 is 1 to 63 with a page held and 0 with none, and byte 295 is 0. A box whose page is held from before
 /// Q-4 has 0 in both.
 pub fn counts(held: u8, number: u8) -> [Change; 2] {
     let valid = if held == 255 { number == 0 } else { (1..=63).contains(&number) };
-    [(102, 1, number as u32, valid), (103, 1, number as u32, number == 0)]
+    [(294, 1, number as u32, valid), (295, 1, number as u32, number == 0)]
 }
 
 pub fn put_change(memory: &mut [u8], (at, size, number, _): Change) {
@@ -69,7 +72,7 @@ fn one(pair: &mut Pair, held: u8, change: Change) -> Result<(), String> {
     let (at, _, _, valid) = change;
     let kinds = match valid {
         true => vec![7, 8, 10],
-        false if at >= 104 => vec![1 + at as u32 % 10],
+        false if at >= PRESENT.page => vec![1 + at as u32 % 10],
         false => (1..=10).chain(UNKNOWN).collect(),
     };
     sent_each(pair, held, change, kinds)
@@ -99,33 +102,40 @@ fn sent_each(pair: &mut Pair, held: u8, change: Change, kinds: Vec<u32>) -> Resu
     Ok(())
 }
 
-/// Each number of groups with the disk of its length: 1 to 16 are valid. The counts from G on are to
+/// Each number of groups with the disk of its length: 1 to 64 are valid. The counts from G on are to
 /// be 0; the held group is to be below G.
 pub fn numbers_of_groups(mut send: impl FnMut(&[u8], &[u8], bool) -> Result<(), String>) -> Result<(), String> {
-    for groups in 0..=18u8 {
-        let mut memory = vec![0; 616];
-        memory[100] = groups;
-        memory[101] = 255;
+    for groups in 0..=66u8 {
+        let mut memory = vec![0; PRESENT.size];
+        memory[PRESENT.groups] = groups;
+        memory[PRESENT.held] = 255;
         let disk = vec![0; groups as usize * 33_280];
-        let valid = (1..=16).contains(&groups);
+        let valid = (1..=64).contains(&groups);
         send(&memory, &disk, valid)?;
         if !valid {
             continue;
         }
-        for at in (32 + 4 * groups as usize..96).step_by(3) {
+        for at in unused(groups as usize) {
             memory[at] = 1;
             send(&memory, &disk, false)?;
             memory[at] = 0;
         }
         // The groups of the box have a count that fits a held one.
-        (0..groups as usize).for_each(|group| memory[32 + 4 * group] = 1);
-        memory[102] = 1;
-        for held in [0, groups - 1, groups, groups + 1, 16, 17, 254] {
-            memory[101] = held;
+        (0..groups as usize).for_each(|group| memory[COUNTS + 4 * group] = 1);
+        memory[PRESENT.updates] = 1;
+        for held in [0, groups - 1, groups, groups + 1, 16, 63, 64, 65, 254] {
+            memory[PRESENT.held] = held;
             send(&memory, &disk, held < groups)?;
         }
     }
     Ok(())
+}
+
+/// Bytes of the counts from G on: the first count's, one here and there, and the last.
+fn unused(groups: usize) -> impl Iterator<Item = usize> {
+    let counts = COUNTS + 4 * groups..PRESENT.last_time;
+    let last = (!counts.is_empty()).then_some(PRESENT.last_time - 1);
+    counts.clone().take(4).chain(counts.skip(4).step_by(13)).chain(last)
 }
 
 /// An identify and a list to the box.

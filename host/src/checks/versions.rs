@@ -15,7 +15,8 @@ pub mod snapshot;
 pub mod stack;
 pub mod stores;
 
-use super::call::{even_page, put_number, GROUP, MEMORY};
+use super::call::{even_page, put_number, GROUP};
+use super::places::{Places, COUNTS, PRESENT};
 
 pub const STATE: usize = 1536;
 pub const BLOCK: usize = 512;
@@ -66,12 +67,17 @@ pub fn some_records(count: usize) -> Vec<(u32, u32)> {
 }
 
 /// A box, none held, whose entries are all alike. Its data blocks are of bytes B0.
-pub fn box_of(groups: usize, (word, stamp): (u32, u32)) -> (Vec<u8>, Vec<u8>) {
-    let mut memory = vec![0; MEMORY];
+pub fn box_of(groups: usize, entry: (u32, u32)) -> (Vec<u8>, Vec<u8>) {
+    box_with(&PRESENT, groups, entry)
+}
+
+/// The same with a memory that has these places.
+pub fn box_with(at: &Places, groups: usize, (word, stamp): (u32, u32)) -> (Vec<u8>, Vec<u8>) {
+    let mut memory = vec![0; at.size];
     memory[..32].fill(9);
-    put_number(&mut memory, 96, LAST_TIME);
-    memory[100] = groups as u8;
-    memory[101] = 255;
+    put_number(&mut memory, at.last_time, LAST_TIME);
+    memory[at.groups] = groups as u8;
+    memory[at.held] = 255;
     let mut disk = vec![0xB0; GROUP * groups];
     for group in disk.chunks_exact_mut(GROUP) {
         group[GROUP - 512..].copy_from_slice(&even_page(word, stamp));
@@ -87,5 +93,5 @@ pub fn set_entry(disk: &mut [u8], block: u32, (word, stamp): (u32, u32)) {
 }
 
 pub fn set_count(memory: &mut [u8], group: usize, count: u32) {
-    put_number(memory, 32 + 4 * group, count);
+    put_number(memory, COUNTS + 4 * group, count);
 }

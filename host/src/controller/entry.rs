@@ -26,6 +26,7 @@ pub struct Entry {
 }
 
 impl Entry {
+    #[inline]
     pub fn read(page: &Page, index: usize) -> Entry {
         let bytes = &page[SIZE * index..][..SIZE];
         Entry {
@@ -34,27 +35,33 @@ impl Entry {
         }
     }
 
+    #[inline]
     pub fn store(self, page: &mut Page, index: usize) {
         page[SIZE * index..][..SIZE].copy_from_slice(&self.bytes());
     }
 
     /// The entry of every block of a formatted box.
+    #[inline]
     pub fn blank() -> Entry {
         Entry { word: 0, stamp: 1 }
     }
 
+    #[inline]
     pub fn bytes(self) -> [u8; SIZE] {
         (self.word as u64 | (self.stamp as u64) << 32).to_le_bytes()
     }
 
+    #[inline]
     pub fn time_of_write(self) -> u32 {
         self.stamp / 2
     }
 
+    #[inline]
     fn frozen(self) -> bool {
         self.stamp & 1 == 0
     }
 
+    #[inline]
     pub fn state(self, now: u32) -> State {
         if self.frozen() {
             State::Frozen
@@ -65,6 +72,7 @@ impl Entry {
         }
     }
 
+    #[inline]
     pub fn time_left(self, now: u32) -> i64 {
         if self.frozen() {
             self.word as i64
@@ -74,6 +82,7 @@ impl Entry {
     }
 
     /// The entry that an update stores, or the question that says no: 9 or 10.
+    #[inline]
     pub fn updated(self, update: Update, now: u32) -> Result<Entry, u32> {
         let state = self.state(now);
         let (allowed, word, stamp) = match update {
@@ -94,6 +103,7 @@ impl Entry {
 }
 
 /// The expiry that an unfreeze gives, by document 02's Q-2: a lock of 1 or more lasts completed seconds.
+#[inline]
 fn expiry(now: u32, lock: u32) -> u64 {
     if lock == 0 { now as u64 } else { now as u64 + lock as u64 + 1 }
 }

@@ -6,7 +6,6 @@ use super::memory::{Memory, Page, PAGE_SIZE};
 use super::{ask, ask_box, ask_time, current_page, GROUP_DATA};
 use std::mem;
 
-const MOST_GROUPS: usize = 16;
 const MOST_NUMBERS: usize = 64;
 const NUMBER_SIZE: usize = 4;
 /// A state byte and a time left.
@@ -19,22 +18,28 @@ type Numbers = [[u8; NUMBER_SIZE]];
 
 /// State and time left of each block of the list: the number of pages read, or that of the first
 /// question that said no.
-pub fn states(memory: &mut [u8], disk: &[u8], blocks: &[u8], now: u32, answer: &mut [u8]) -> Result<u32, u32> {
-    let numbers = questions(memory, disk, blocks, now, answer.len())?;
-    let memory = Memory::of_mut(memory).unwrap();
+pub fn states<const COUNTS: usize>(
+    memory: &mut [u8],
+    disk: &[u8],
+    blocks: &[u8],
+    now: u32,
+    answer: &mut [u8],
+) -> Result<u32, u32> {
+    let numbers = questions::<COUNTS>(memory, disk, blocks, now, answer.len())?;
+    let memory = Memory::<COUNTS>::of_mut(memory).unwrap();
     memory.set_last_time(now);
     Ok(show(memory, disk, numbers, now, answer.as_chunks_mut().0))
 }
 
 /// The questions in order; where all have yes, the list's numbers.
-fn questions<'a>(
+fn questions<'a, const COUNTS: usize>(
     memory: &[u8],
     disk: &[u8],
     blocks: &'a [u8],
     now: u32,
     answer_len: usize,
 ) -> Result<&'a Numbers, u32> {
-    let memory = ask_box(memory, disk)?;
+    let memory = ask_box::<COUNTS>(memory, disk)?;
     ask_time(memory, now)?;
     let (numbers, rest) = blocks.as_chunks();
     ask(rest.is_empty() && (1..=MOST_NUMBERS).contains(&numbers.len()), 12)?;
@@ -47,8 +52,14 @@ fn questions<'a>(
 }
 
 /// Fills the answer group by group, and says how many pages that took.
-fn show(memory: &Memory, disk: &[u8], numbers: &Numbers, now: u32, answer: &mut [[u8; SHOWN_SIZE]]) -> u32 {
-    let mut first = [END; MOST_GROUPS];
+fn show<const COUNTS: usize>(
+    memory: &Memory<COUNTS>,
+    disk: &[u8],
+    numbers: &Numbers,
+    now: u32,
+    answer: &mut [[u8; SHOWN_SIZE]],
+) -> u32 {
+    let mut first = [END; COUNTS];
     let mut next = [END; MOST_NUMBERS];
     let mut named = part(numbers, &mut first, &mut next);
     let mut page = [0; PAGE_SIZE];
@@ -57,7 +68,7 @@ fn show(memory: &Memory, disk: &[u8], numbers: &Numbers, now: u32, answer: &mut 
         let group = named.trailing_zeros() as usize;
         named &= named - 1;
         pages += fetch(memory, disk, group, &mut page);
-        let mut place = first[group % MOST_GROUPS];
+        let mut place = first[group % COUNTS];
         while place != END {
             let number = u32::from_le_bytes(numbers[place as usize]);
             answer[place as usize] = shown(Entry::read(&page, (number % GROUP_DATA) as usize), now);
@@ -69,22 +80,23 @@ fn show(memory: &Memory, disk: &[u8], numbers: &Numbers, now: u32, answer: &mut 
 
 /// Parts the list's places by groups: from a group's first one leads on to the next, until END. Says
 /// which groups are named, a bit for each.
-fn part(numbers: &Numbers, first: &mut [u8; MOST_GROUPS], next: &mut [u8; MOST_NUMBERS]) -> u32 {
+fn part<const COUNTS: usize>(numbers: &Numbers, first: &mut [u8; COUNTS], next: &mut [u8; MOST_NUMBERS]) -> u64 {
     let mut named = 0;
     for (place, (number, next)) in numbers.iter().zip(next).enumerate() {
-        let group = (u32::from_le_bytes(*number) / GROUP_DATA) as usize % MOST_GROUPS;
+        let group = (u32::from_le_bytes(*number) / GROUP_DATA) as usize % COUNTS;
         *next = mem::replace(&mut first[group], place as u8);
-        named |= 1 << group;
+        named |= 1u64 << group;
     }
     named
 }
 
 /// Copies the group's current page: one page read.
-fn fetch(memory: &Memory, disk: &[u8], group: usize, page: &mut Page) -> u32 {
+fn fetch<const COUNTS: usize>(memory: &Memory<COUNTS>, disk: &[u8], group: usize, page: &mut Page) -> u32 {
     page.copy_from_slice(current_page(memory, disk, group));
     1
 }
 
+#[inline]
 fn shown(entry: Entry, now: u32) -> [u8; SHOWN_SIZE] {
     let mut bytes = [entry.state(now) as u8; SHOWN_SIZE];
     bytes[1..].copy_from_slice(&entry.time_left(now).to_le_bytes());
@@ -94,7 +106,7 @@ fn shown(entry: Entry, now: u32) -> [u8; SHOWN_SIZE] {
 #[cfg(test)]
 mod tests {
     use super::super::tests::Formatted;
-    use super::super::{SYNC, UNFREEZE, WRITE};
+    use super::super::{PRESENT, SYNC, UNFREEZE, WRITE};
     use super::states;
 
     /// What formatting leaves of an entry, at 1000: free, and 1000 seconds past.
@@ -106,15 +118,15 @@ mod tests {
         fn shows(&mut self, numbers: &[u32], now: u32, pages: u32, shown: &[[u8; 9]]) {
             let blocks: Vec<u8> = numbers.iter().flat_map(|number| number.to_le_bytes()).collect();
             let mut answer = vec![0xCC; 9 * numbers.len()];
-            assert_eq!(states(&mut self.memory, &self.disk, &blocks, now, &mut answer), Ok(pages));
+            assert_eq!(states::<PRESENT>(&mut self.memory, &self.disk, &blocks, now, &mut answer), Ok(pages));
             assert_eq!(answer, shown.as_flattened());
-            assert_eq!(self.memory[96..100], now.to_le_bytes());
+            assert_eq!(self.memory[288..292], now.to_le_bytes());
         }
 
         /// The list gets this number, and nothing changes.
         fn refuses(&mut self, blocks: &[u8], now: u32, answer_len: usize, number: u32) {
             let (memory, mut answer) = (self.memory, vec![0xCC; answer_len]);
-            assert_eq!(states(&mut self.memory, &self.disk, blocks, now, &mut answer), Err(number));
+            assert_eq!(states::<PRESENT>(&mut self.memory, &self.disk, blocks, now, &mut answer), Err(number));
             assert_eq!(answer, vec![0xCC; answer_len]);
             assert_eq!(self.memory, memory);
         }
@@ -134,14 +146,14 @@ mod tests {
 
     #[test]
     fn a_page_is_read_once_for_each_group_named_wherever_it_is() {
-        let mut a = Formatted::new(16);
-        a.sends(WRITE, 1023, 1000, 500);
-        a.shows(&[1023, 0, 1023, 64, 1], 1000, 3, &[LOCK_500, BLANK, LOCK_500, BLANK, BLANK]);
+        let mut a = Formatted::new(64);
+        a.sends(WRITE, 4095, 1000, 500);
+        a.shows(&[4095, 0, 4095, 64, 1], 1000, 3, &[LOCK_500, BLANK, LOCK_500, BLANK, BLANK]);
         a.shows(&[63, 63], 1000, 1, &[BLANK, BLANK]);
         a.sends(SYNC, 0, 1000, 0);
-        a.shows(&[64, 1023], 1000, 2, &[BLANK, LOCK_500]);
-        let spread: Vec<u32> = (0..64).map(|i| i % 16 * 64).collect();
-        a.shows(&spread, 1000, 16, &[BLANK; 64]);
+        a.shows(&[64, 4095], 1000, 2, &[BLANK, LOCK_500]);
+        let spread: Vec<u32> = (0..64).map(|i| i * 64).collect();
+        a.shows(&spread, 1000, 64, &[BLANK; 64]);
     }
 
     #[test]
@@ -159,7 +171,7 @@ mod tests {
         a.refuses(&[], 2_147_483_648, 0, 4);
         a.disk.pop();
         a.refuses(&[], 999, 0, 2);
-        a.memory[102] = 1;
+        a.memory[294] = 1;
         a.refuses(&[], 999, 0, 1);
     }
 }

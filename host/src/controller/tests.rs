@@ -1,16 +1,16 @@
 //! A formatted box for the model's own tests, and document 02's Q-4 by hand: the bytes of memory and disk about the 64th
 //! update of a held page.
-use super::{command, format, Command, OwnDigest, INCREMENT, NEW_SALT, PAGE, READ, RESTART, SYNC, UNFREEZE, WRITE};
+use super::{command, format, Command, OwnDigest, INCREMENT, NEW_SALT, PAGE, PRESENT, READ, RESTART, SYNC, UNFREEZE, WRITE};
 
 pub struct Formatted {
-    pub memory: [u8; 616],
+    pub memory: [u8; 808],
     pub disk: Vec<u8>,
 }
 
 impl Formatted {
     pub fn new(groups: u32) -> Formatted {
-        let mut made = Formatted { memory: [0; 616], disk: vec![0; 33_280 * groups as usize] };
-        assert_eq!(format(&mut made.memory, &mut made.disk, groups, &[0; 32]), 0);
+        let mut made = Formatted { memory: [0; 808], disk: vec![0; 33_280 * groups as usize] };
+        assert_eq!(format::<PRESENT>(&mut made.memory, &mut made.disk, groups, &[0; 32]), 0);
         made
     }
 
@@ -32,11 +32,11 @@ impl Formatted {
             _ => &[],
         };
         let sent = Command { kind, block, now, value, data, proof: &proof };
-        command::<OwnDigest>(&mut self.memory, &mut self.disk, &sent, answer)
+        command::<PRESENT, OwnDigest>(&mut self.memory, &mut self.disk, &sent, answer)
     }
 
     fn last_time(&self) -> u32 {
-        u32::from_le_bytes(self.memory[96..100].try_into().unwrap())
+        u32::from_le_bytes(self.memory[288..292].try_into().unwrap())
     }
 
     /// Block 3 is written under lock 0 at 100, and its lock grows by 1 until group 0 has had so many updates.
@@ -57,9 +57,9 @@ impl Formatted {
     /// The counts of the two groups, the held group and the updates to its page.
     fn is(&self, counts: [u8; 2], held: u8, updates: u8) {
         assert_eq!(self.memory[32..40], [counts[0], 0, 0, 0, counts[1], 0, 0, 0]);
-        assert_eq!(self.memory[100..104], [2, held, updates, 0]);
+        assert_eq!(self.memory[292..296], [2, held, updates, 0]);
         if held == 255 {
-            assert_eq!(self.memory[104..], [0; 512]);
+            assert_eq!(self.memory[296..], [0; 512]);
         }
     }
 
@@ -147,18 +147,18 @@ fn only_accepted_updates_are_counted() {
     a.blank();
 }
 
-/// Every value of bytes 102 and 103, with a page held and with none.
+/// Every value of bytes 294 and 295, with a page held and with none.
 #[test]
 fn a_held_page_has_1_to_63_updates() {
     for (a, fewest, most) in [(Formatted::updated(7), 1, 63), (Formatted::new(2), 0, 0)] {
         for byte in 0..=255 {
             let mut b = Formatted { memory: a.memory, disk: a.disk.clone() };
-            b.memory[102] = byte;
+            b.memory[294] = byte;
             let number = if (fewest..=most).contains(&byte) { 0 } else { 1 };
-            assert_eq!(b.gets(READ, 0, 100, 0, &mut [0; 544]), number, "byte 102 is {byte}");
-            b.memory[102] = a.memory[102];
-            b.memory[103] = byte;
-            assert_eq!(b.gets(READ, 0, 100, 0, &mut [0; 544]), byte.min(1) as u32, "byte 103 is {byte}");
+            assert_eq!(b.gets(READ, 0, 100, 0, &mut [0; 544]), number, "byte 294 is {byte}");
+            b.memory[294] = a.memory[294];
+            b.memory[295] = byte;
+            assert_eq!(b.gets(READ, 0, 100, 0, &mut [0; 544]), byte.min(1) as u32, "byte 295 is {byte}");
         }
     }
 }

@@ -1,6 +1,6 @@
 //! The model by hand: which blocks are found, where the walk stops, and what is refused.
 use super::recover;
-use crate::controller::{self, OwnDigest};
+use crate::controller::{self, OwnDigest, PRESENT};
 use crate::versions;
 
 const LAST_TIME: u32 = 1000;
@@ -12,16 +12,16 @@ const COUNTING: (u32, u32) = (NOW + 1, 3001);
 const LAPSED: (u32, u32) = (NOW, 3001);
 
 struct Made {
-    memory: [u8; 616],
+    memory: [u8; 808],
     disk: Vec<u8>,
 }
 
 impl Made {
     /// A box whose blocks are all free, and whose log is block 0, written at 1500, with these records and this pointer.
     fn new(groups: usize, records: &[(u32, u32)], pointer: u64) -> Made {
-        let mut made = Made { memory: [0; 616], disk: vec![0; 33_280 * groups] };
-        assert_eq!(controller::format(&mut made.memory, &mut made.disk, groups as u32, &[0; 32]), 0);
-        made.memory[96..100].copy_from_slice(&LAST_TIME.to_le_bytes());
+        let mut made = Made { memory: [0; 808], disk: vec![0; 33_280 * groups] };
+        assert_eq!(controller::format::<PRESENT>(&mut made.memory, &mut made.disk, groups as u32, &[0; 32]), 0);
+        made.memory[288..292].copy_from_slice(&LAST_TIME.to_le_bytes());
         made.log(0, FROZEN, records, pointer);
         made
     }
@@ -48,13 +48,13 @@ impl Made {
             right[4 * part..4 * part + 4].copy_from_slice(&block.to_le_bytes());
         }
         let mut result = [0xCC; 1024];
-        assert_eq!(recover(&self.memory, &self.disk, point, now, &mut result), 0);
+        assert_eq!(recover::<PRESENT>(&self.memory, &self.disk, point, now, &mut result), 0);
         assert_eq!(result, right, "at {point}, now {now}");
     }
 
     fn refuses(&self, disk_len: usize, now: u32, result_len: usize, number: u32) {
         let mut result = vec![0xCC; result_len];
-        assert_eq!(recover(&self.memory, &self.disk[..disk_len], POINT, now, &mut result), number);
+        assert_eq!(recover::<PRESENT>(&self.memory, &self.disk[..disk_len], POINT, now, &mut result), number);
         assert_eq!(result, vec![0xCC; result_len]);
     }
 }
@@ -65,10 +65,10 @@ fn a_store_is_found_as_it_was() {
     made.entry(0, (0, 1));
     assert_eq!(versions::start(&mut state, 500), 0);
     for (part, now) in [(7, 1000), (255, 1001), (7, 1002)] {
-        assert!(versions::put::<OwnDigest>(&mut state, &mut made.memory, &mut made.disk, part, now, &[1; 512]).is_ok());
+        assert!(versions::put::<PRESENT, OwnDigest>(&mut state, &mut made.memory, &mut made.disk, part, now, &[1; 512]).is_ok());
     }
     made.finds(1002, 1002, &[]);
-    assert_eq!(versions::flush::<OwnDigest>(&mut state, &mut made.memory, &mut made.disk, 1003), Ok(()));
+    assert_eq!(versions::flush::<PRESENT, OwnDigest>(&mut state, &mut made.memory, &mut made.disk, 1003), Ok(()));
     // With the page held as it is, and as of the times about the log block's.
     made.finds(1003, 1003, &[(7, 3), (255, 2)]);
     made.finds(1002, 1003, &[]);
@@ -129,19 +129,19 @@ fn the_held_page_is_the_current_one() {
     made.entry(2, FROZEN);
     made.finds(POINT, NOW, &[]);
     made.memory[32] = 1;
-    made.memory[101..103].copy_from_slice(&[0, 1]);
-    made.memory[104..].copy_from_slice(&page);
+    made.memory[293..295].copy_from_slice(&[0, 1]);
+    made.memory[296..].copy_from_slice(&page);
     made.finds(POINT, NOW, &[(1, 1)]);
 }
 
-/// Sixteen groups, each block a log block with a part of its own: the walk takes all 1,024, and ends where it began.
+/// Sixty-four groups, each block a log block with a part of its own: the walk takes all 4,096, and ends where it began.
 #[test]
 fn a_log_may_take_every_block() {
-    let mut made = Made::new(16, &[(0, 0)], 1);
-    for block in 1..1024 {
-        made.log(block, FROZEN, &vec![(block as u32 % 256, block as u32); 63], (block as u64 + 1) % 1024);
+    let mut made = Made::new(64, &[(0, 0)], 1);
+    for block in 1..4096 {
+        made.log(block, FROZEN, &vec![(block as u32 % 256, block as u32); 63], (block as u64 + 1) % 4096);
     }
-    let blocks: Vec<(usize, u32)> = (0..256).map(|part| (part, 768 + part as u32)).collect();
+    let blocks: Vec<(usize, u32)> = (0..256).map(|part| (part, 3840 + part as u32)).collect();
     made.finds(POINT, NOW, &blocks);
 }
 
@@ -153,8 +153,8 @@ fn questions_are_asked_in_order() {
     made.refuses(33_280, LAST_TIME - 1, 0, 4);
     made.refuses(33_280, 2_147_483_648, 0, 4);
     made.refuses(33_279, 0, 0, 2);
-    made.memory[103] = 1;
+    made.memory[295] = 1;
     made.refuses(33_279, 0, 0, 1);
-    made.memory[103] = 0;
+    made.memory[295] = 0;
     made.finds(0, LAST_TIME, &[]);
 }

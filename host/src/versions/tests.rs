@@ -1,6 +1,6 @@
 //! The model by hand: bytes, numbers, and commands that are taken back.
 use super::{block, flush, put, start, Refusal};
-use crate::controller::{self, OwnDigest};
+use crate::controller::{self, OwnDigest, OLD, PRESENT};
 
 #[derive(Clone, Debug, PartialEq)]
 struct Store {
@@ -11,18 +11,18 @@ struct Store {
 
 impl Store {
     fn new(groups: u32, lock: u32) -> Store {
-        let mut made = Store { state: vec![0; 1536], memory: vec![0; 616], disk: vec![0; 33_280 * groups as usize] };
-        assert_eq!(controller::format(&mut made.memory, &mut made.disk, groups, &[0; 32]), 0);
+        let mut made = Store { state: vec![0; 1536], memory: vec![0; 808], disk: vec![0; 33_280 * groups as usize] };
+        assert_eq!(controller::format::<PRESENT>(&mut made.memory, &mut made.disk, groups, &[0; 32]), 0);
         assert_eq!(start(&mut made.state, lock), 0);
         made
     }
 
     fn puts(&mut self, part: u32, now: u32, byte: u8) -> Result<u32, Refusal> {
-        put::<OwnDigest>(&mut self.state, &mut self.memory, &mut self.disk, part, now, &[byte; 512])
+        put::<PRESENT, OwnDigest>(&mut self.state, &mut self.memory, &mut self.disk, part, now, &[byte; 512])
     }
 
     fn flushes(&mut self, now: u32) -> Result<(), Refusal> {
-        flush::<OwnDigest>(&mut self.state, &mut self.memory, &mut self.disk, now)
+        flush::<PRESENT, OwnDigest>(&mut self.state, &mut self.memory, &mut self.disk, now)
     }
 
     fn set(&mut self, at: usize, number: u32) {
@@ -35,7 +35,7 @@ fn a_start_leaves_no_versions() {
     let store = Store::new(1, 500);
     assert_eq!(store.state[..16], [0xF4, 0x01, 0, 0, 0, 0, 0, 0, 0, 0, 0, 0, 0, 0, 0, 0]);
     assert_eq!(store.state[16..], [0xFF; 1520]);
-    assert_eq!(block(&store.state, 255), Ok(u32::MAX));
+    assert_eq!(block::<PRESENT>(&store.state, 255), Ok(u32::MAX));
     assert_eq!([0, 2_147_483_648].map(|lock| start(&mut [0; 1536], lock)), [10, 10]);
     assert_eq!([1, 2_147_483_647].map(|lock| start(&mut [0; 1536], lock)), [0, 0]);
     assert_eq!(start(&mut [0; 1537], 0), 1);
@@ -48,9 +48,9 @@ fn three_puts_and_a_flush_leave_these_bytes() {
     let records = [7, 0, 0, 0, 1, 0, 0, 0, 255, 0, 0, 0, 2, 0, 0, 0, 7, 0, 0, 0, 3, 0, 0, 0];
     assert_eq!(s.state[8..16], [3, 0, 0, 0, 3, 0, 0, 0]);
     assert_eq!(s.state[1040..1064], records);
-    assert_eq!([block(&s.state, 7), block(&s.state, 255), block(&s.state, 256)], [Ok(3), Ok(2), Err(13)]);
+    assert_eq!([block::<PRESENT>(&s.state, 7), block::<PRESENT>(&s.state, 255), block::<PRESENT>(&s.state, 256)], [Ok(3), Ok(2), Err(13)]);
     // Block 1 counts to 1002 + 500 + 1.
-    assert_eq!(s.memory[112..120], [0xDF, 0x05, 0, 0, 0xD1, 0x07, 0, 0]);
+    assert_eq!(s.memory[304..312], [0xDF, 0x05, 0, 0, 0xD1, 0x07, 0, 0]);
     assert_eq!(s.flushes(1003), Ok(()));
     assert_eq!(s.disk[..24], records);
     assert_eq!(s.disk[24..504], [0xFF; 480]);
@@ -78,7 +78,7 @@ fn a_page_leaves_inside_a_put() {
     let mut s = Store::new(2, 500);
     for put in 1..=62 {
         assert_eq!(s.puts(put, 1000, 1), Ok(put));
-        assert_eq!(s.memory[100..104], [2, 0, put as u8, 0]);
+        assert_eq!(s.memory[292..296], [2, 0, put as u8, 0]);
     }
     assert_eq!(s.disk[64 * 512..65 * 512], [0, 0, 0, 0, 1, 0, 0, 0].repeat(64));
     let mut refused = s.clone();
@@ -87,8 +87,8 @@ fn a_page_leaves_inside_a_put() {
     assert_eq!(refused.puts(63, 1000, 1), Err(Refusal { number: 9, command: 2 }));
     assert_eq!(refused, before);
     assert_eq!(s.puts(63, 1000, 1), Ok(63));
-    assert_eq!(s.memory[100..104], [2, 255, 0, 0]);
-    assert_eq!(s.memory[104..], [0; 512]);
+    assert_eq!(s.memory[292..296], [2, 255, 0, 0]);
+    assert_eq!(s.memory[296..], [0; 512]);
     assert_eq!(s.disk[64 * 512..65 * 512], [0xF4, 0x01, 0, 0, 0xD0, 0x07, 0, 0].repeat(64));
 }
 
@@ -97,15 +97,15 @@ fn a_page_leaves_inside_a_put() {
 fn a_page_that_left_is_taken_back() {
     let mut s = Store::new(1, 500);
     assert_eq!(s.puts(7, 1000, 1), Ok(1));
-    s.memory[102] = 63;
+    s.memory[294] = 63;
     s.set(16 + 4 * 9, 20);
     let before = s.clone();
     assert_eq!(s.puts(9, 1001, 2), Err(Refusal { number: 9, command: 2 }));
     assert_eq!(s, before);
     assert_eq!(s.puts(7, 1001, 2), Ok(2));
-    assert_eq!(s.memory[100..104], [1, 0, 1, 0]);
+    assert_eq!(s.memory[292..296], [1, 0, 1, 0]);
     assert_eq!(s.disk[64 * 512 + 8..][..16], [0xF4, 0x01, 0, 0, 0xD0, 0x07, 0, 0, 0xF4, 0x01, 0, 0, 0xD2, 0x07, 0, 0]);
-    assert_eq!(s.memory[112..120], [0xDE, 0x05, 0, 0, 0xD1, 0x07, 0, 0]);
+    assert_eq!(s.memory[304..312], [0xDE, 0x05, 0, 0, 0xD1, 0x07, 0, 0]);
 }
 
 /// The version would go to group 0, for which group 1's held page leaves; the replaced one, and the log block, are refused.
@@ -139,4 +139,14 @@ fn questions_are_asked_in_order() {
     assert_eq!([s.puts(255, 2_147_483_648, 1), s.puts(255, 0, 1)], [Err(4.into()), Err(14.into())]);
     s.disk[64 * 512 + 8 * 40 + 4] = 1;
     assert_eq!([s.puts(255, 0, 1), s.puts(255, 0, 1)], [Ok(1), Err(14.into())]);
+}
+
+/// A block that only the larger box can have.
+#[test]
+fn blocks_are_those_of_the_largest_box() {
+    let mut s = Store::new(1, 500);
+    for (number, old, present) in [(1023, Ok(1023), Ok(1023)), (1024, Err(1), Ok(1024)), (4095, Err(1), Ok(4095)), (4096, Err(1), Err(1))] {
+        s.set(16 + 4 * 9, number);
+        assert_eq!([block::<OLD>(&s.state, 9), block::<PRESENT>(&s.state, 9)], [old, present]);
+    }
 }

@@ -1,6 +1,6 @@
 //! Commands to the controller that are taken back where a later one is refused.
 use super::Refusal;
-use crate::controller::{self, Command, Digest, PAGE};
+use crate::controller::{self, Command, Digest, Memory, PAGE};
 
 const BLOCK_SIZE: usize = 512;
 const GROUP_DATA: u32 = 64;
@@ -8,7 +8,7 @@ const PROOF_SIZE: usize = 544;
 /// Three commands, and at each the block and the held page, which leaves for another group's or by itself.
 const MOST_STORES: usize = 6;
 
-pub struct Trial<'a> {
+pub struct Trial<'a, const COUNTS: usize> {
     memory: &'a mut [u8],
     disk: &'a mut [u8],
     blocks: u32,
@@ -20,9 +20,9 @@ pub struct Trial<'a> {
     given: u32,
 }
 
-impl<'a> Trial<'a> {
+impl<'a, const COUNTS: usize> Trial<'a, COUNTS> {
     /// A trial on a box of so many data blocks.
-    pub fn new(memory: &'a mut [u8], disk: &'a mut [u8], blocks: u32, now: u32) -> Trial<'a> {
+    pub fn new(memory: &'a mut [u8], disk: &'a mut [u8], blocks: u32, now: u32) -> Self {
         let memory_before = memory.to_vec();
         Trial { memory, disk, blocks, now, memory_before, stored: Vec::with_capacity(MOST_STORES), given: 0 }
     }
@@ -40,7 +40,7 @@ impl<'a> Trial<'a> {
     }
 
     fn allocatable(&self, block: u32, reserve: u32) -> bool {
-        block != reserve && controller::is_free(self.memory, self.disk, block, self.now)
+        block != reserve && controller::is_free::<COUNTS>(self.memory, self.disk, block, self.now)
     }
 
     /// An update with the current page and tag of the block's group, as kind 3 answers them.
@@ -61,7 +61,7 @@ impl<'a> Trial<'a> {
         answer: &mut [u8],
     ) -> Result<(), Refusal> {
         let command = Command { kind, block, now: self.now, value, data, proof };
-        match controller::command::<D>(self.memory, self.disk, &command, answer) {
+        match controller::command::<COUNTS, D>(self.memory, self.disk, &command, answer) {
             0 => Ok(()),
             number => Err(Refusal { number, command: self.given }),
         }
@@ -70,8 +70,7 @@ impl<'a> Trial<'a> {
     /// Keeps what an update may store on: the block, and the page of the group that is held. A page that is not held yet
     /// does not leave with its first update.
     fn keep(&mut self, block: u32) {
-        let held = self.memory[101] as usize;
-        if held != 255 {
+        if let Some(held) = Memory::<COUNTS>::of(self.memory).and_then(Memory::held) {
             self.keep_physical(65 * held + 64);
         }
         self.keep_physical((block + block / GROUP_DATA) as usize);

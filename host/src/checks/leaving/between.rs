@@ -6,9 +6,10 @@
 //! Found here: a page that leaves at another update than the 64th; a count that outlasts a sync, a restart, a new salt or another
 //! group's update, or that a refused or a looking command raises; a page that has left and is still held, or of which bytes are left;
 //! a 64th update without its data, its page on the disk, its freshness count or its answer.
-use super::super::call::{last_time, number, page, Call, LATEST};
+use super::super::call::{number, page, Call, LATEST};
 use super::super::lists::List;
 use super::super::pair::Pair;
+use super::super::places::last_time;
 use super::super::Checked;
 use super::{let_go, read_all, update, updated, Tally};
 
@@ -88,7 +89,7 @@ fn refused(pair: &Pair, turn: u32, number: u32) -> Call {
     let mut call = update(pair, 0, turn);
     let now = last_time(pair.memory());
     match number {
-        1 => call.memory_len = Some(615),
+        1 => call.memory_len = Some(pair.memory().len() - 1),
         2 => call.disk_len = Some(pair.disk().len() - 1),
         3 => call.kind = 11,
         4 => call.now = if turn.is_multiple_of(2) { now.wrapping_sub(1) } else { LATEST + 1 },

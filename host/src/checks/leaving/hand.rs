@@ -24,9 +24,9 @@ fn updated(updates: u32) -> Result<Archive, String> {
 /// The counts of the two groups; G, the held group and its updates. With none held, its page is of zero bytes.
 fn memory(a: &Archive, counts: [u8; 2], held: u8, updates: u8) -> Result<(), String> {
     same("the counts", &a.memory[32..40], &[counts[0], 0, 0, 0, counts[1], 0, 0, 0])?;
-    same("time, G, held and updates", &a.memory[96..104], &[100, 0, 0, 0, 2, held, updates, 0])?;
+    same("time, G, held and updates", &a.memory[288..296], &[100, 0, 0, 0, 2, held, updates, 0])?;
     match held {
-        255 => same("the held page", &a.memory[104..], &[0; 512]),
+        255 => same("the held page", &a.memory[296..], &[0; 512]),
         _ => Ok(()),
     }
 }
@@ -38,7 +38,7 @@ fn stored(a: &Archive, lock: Option<u8>) -> Result<(), String> {
     same("group 0's page", &a.disk[64 * 512..65 * 512], &page)
 }
 
-/// Byte 102 along the way, the 64th update, and the 128th. The tag is by b3sum: perl -e 'print "\0" x 32, pack("Q<", 0),
+/// Byte 294 along the way, the 64th update, and the 128th. The tag is by b3sum: perl -e 'print "\0" x 32, pack("Q<", 0),
 /// pack("L<", 64), pack("L<L<", 0, 1) x 3, pack("L<L<", 63, 200), pack("L<L<", 0, 1) x 60' | b3sum --no-names
 fn leaves() -> Result<(), String> {
     let mut a = updated(1)?;
@@ -122,7 +122,7 @@ fn restarts() -> Result<(), String> {
     Ok(())
 }
 
-/// A refused update is not counted. A memory whose page was held before Q-4 has 0 in byte 102 and gets 1; so does one of 64 updates,
+/// A refused update is not counted. A memory whose page was held before Q-4 has 0 in byte 294 and gets 1; so does one of 64 updates,
 /// and one of none held that has updates.
 fn refuses() -> Result<(), String> {
     let mut a = updated(63)?;
@@ -132,12 +132,12 @@ fn refuses() -> Result<(), String> {
     stored(&a, None)?;
     for byte in [0, 64, 255] {
         let mut b = a.clone();
-        b.memory[102] = byte;
+        b.memory[294] = byte;
         (1..=10).filter(|kind| !(4..=6).contains(kind)).try_for_each(|kind| b.gets(kind, 0, 100, 0, 1))?;
         b.refuses(&[0; 4], 100, 9, 1)?;
     }
     let mut b = Archive::formatted(2)?;
-    b.memory[102] = 1;
+    b.memory[294] = 1;
     b.gets(7, 0, 100, 0, 1)?;
     b.refuses(&[0; 4], 100, 9, 1)
 }

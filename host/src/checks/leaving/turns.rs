@@ -5,12 +5,13 @@
 //! changes, or is kept for the group that comes back; a page that leaves without its freshness count having risen.
 use super::super::call::put_number;
 use super::super::pair::Pair;
+use super::super::places::PRESENT;
 use super::super::Checked;
 use super::{let_go, read_all, update, updated, Tally};
 
 const HIGHEST_COUNT: u32 = u32::MAX - 1;
 /// Groups of a box, and the one that is updated.
-const LONG: [(u8, u32); 6] = [(1, 0), (2, 0), (2, 1), (3, 1), (16, 0), (16, 15)];
+const LONG: [(u8, u32); 9] = [(1, 0), (2, 0), (2, 1), (3, 1), (16, 0), (16, 15), (17, 16), (64, 0), (64, 63)];
 const LENGTHS: [u32; 9] = [1, 2, 31, 32, 62, 63, 64, 65, 130];
 
 pub fn check(pair: &mut Pair) -> Checked {
@@ -51,7 +52,7 @@ fn by_turns(pair: &mut Pair, lengths: [u32; 2]) -> Result<(), String> {
 fn from(pair: &mut Pair, updates: u32) -> Result<(), String> {
     pair.load_formatted(2, &[4; 32])?;
     updated(pair, &mut Tally::default(), 0, 0)?;
-    pair.change_memory(|memory| memory[102] = updates as u8);
+    pair.change_memory(|memory| memory[PRESENT.updates] = updates as u8);
     let (memory, disk) = (pair.memory().to_vec(), pair.disk().to_vec());
     for group in [0, 1] {
         let mut tally = Tally::new(0, updates);

@@ -1,5 +1,7 @@
 //! Every set of the questions that are put to a list says no at once: the first in order is answered.
+use super::super::call::MEMORY;
 use super::super::pair::Pair;
+use super::super::places::PRESENT;
 use super::super::Checked;
 use super::{box_of, List, LAST_TIME, NONE, NOW};
 
@@ -29,7 +31,7 @@ pub fn check(pair: &mut Pair) -> Checked {
 fn spoiled(memory: &mut [u8], disk_len: usize, no: &[u32], turn: usize) -> List {
     let mut list = List::new(&[70, 3, 70, 127, 64], NOW);
     if no.contains(&5) {
-        list.put(turn, [128, 1024, 65_536 + 70, u32::MAX][turn % 4]);
+        list.put(turn, [128, 4096, 65_536 + 70, u32::MAX][turn % 4]);
     }
     if no.contains(&12) {
         // Five numbers thirteen times over are one too many.
@@ -51,10 +53,10 @@ fn spoiled(memory: &mut [u8], disk_len: usize, no: &[u32], turn: usize) -> List 
     if no.contains(&1) {
         match turn % 4 {
             // More updates than a held page can have, and some where none is held.
-            0 => memory[102] += 1,
-            1 => memory[103] = 1,
-            2 => list.memory_len = Some(615),
-            _ => list.memory_len = Some(617),
+            0 => memory[PRESENT.updates] += 1,
+            1 => memory[PRESENT.zero] = 1,
+            2 => list.memory_len = Some(MEMORY - 1),
+            _ => list.memory_len = Some(MEMORY + 1),
         }
     }
     list

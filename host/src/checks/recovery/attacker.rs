@@ -1,7 +1,8 @@
 //! An intruder on a box with a version store's log, after X: any command, timed after X, with pages that are current or old, and the
 //! store's own later calls.
-use super::super::call::{last_time, Call, LATEST, UNKNOWN};
+use super::super::call::{Call, LATEST, UNKNOWN};
 use super::super::lists::List;
+use super::super::places::{held, last_time};
 use super::super::versions::stores::{Put, Told};
 use super::made::log_block;
 use super::office::{new_salt, Kept};
@@ -120,7 +121,7 @@ impl<'a> Attacker<'a> {
     }
 
     fn restart(&mut self, now: u32) -> Result<(), String> {
-        let held = self.walks.stores.pair.memory()[101] != 255;
+        let held = held(self.walks.stores.pair.memory()) != 255;
         self.walks.seen.note_if("a restart that loses a page", held);
         self.send(&Call::new(8, 0, now, 0)).map(|_| ())
     }

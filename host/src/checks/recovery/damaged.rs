@@ -1,6 +1,8 @@
 //! Random boxes that no store has left: log blocks, pointers and pages of any kind, with or without a page held, walked as of times
 //! about those of their entries.
-use super::super::call::{last_time, put_number, LATEST};
+use super::super::call::{put_number, LATEST};
+use super::super::model::Model;
+use super::super::places::{last_time, of, COUNTS};
 use super::super::room::GUARD;
 use super::super::versions::snapshot::Snapshot;
 use super::super::versions::set_entry;
@@ -16,7 +18,7 @@ const ABOUT: u32 = 4000;
 
 /// Walks of a new box; some of them are refused.
 pub fn run(walks: &mut Walks, random: &mut Random) -> Result<(), String> {
-    let made = Damage { random }.made();
+    let made = Damage { random, model: walks.stores.pair.model }.made();
     walks.load(&made);
     for _ in 0..WALKS {
         let walk = any_walk(&made, random);
@@ -27,12 +29,12 @@ pub fn run(walks: &mut Walks, random: &mut Random) -> Result<(), String> {
 
 /// A walk at a time at which entries lapse, in one case of eight spoiled.
 fn any_walk(made: &Snapshot, random: &mut Random) -> Walk {
-    let last = last_time(&made.memory);
+    let (last, size) = (last_time(&made.memory), made.memory.len());
     let point = [near(random), near(random), near(random), LATEST, u32::MAX, 0][random.below(6)];
     let mut walk = Walk::new(point, last.saturating_add(random.below(12) as u32).min(LATEST));
     match random.below(40) {
         0 => walk.result_len = [0, RESULT - 1, RESULT + 1, random.below(3000)][random.below(4)],
-        1 => walk.memory_len = Some([0, 615, 617, random.below(616 + GUARD)][random.below(4)]),
+        1 => walk.memory_len = Some([0, size - 1, size + 1, random.below(size + GUARD)][random.below(4)]),
         2 => walk.disk_len = Some([0, 33_279, made.disk.len() - 1, made.disk.len() + 1][random.below(4)]),
         3 => walk.now = [last.wrapping_sub(1), 0, LATEST + 1, u32::MAX][random.below(4)],
         4 => (walk.result_len, walk.now) = (RESULT - 1, LATEST + 1),
@@ -47,21 +49,25 @@ fn near(random: &mut Random) -> u32 {
 
 struct Damage<'a> {
     random: &'a mut Random,
+    model: Model,
 }
 
 impl Damage<'_> {
     fn made(&mut self) -> Snapshot {
-        let groups = [1, 1, 2, 2, 3, 1 + self.random.below(16)][self.random.below(6)];
-        let mut made = Snapshot::empty(groups);
+        let most = if self.random.below(6) == 0 { self.model.most_groups } else { 16 };
+        let groups = [1, 1, 2, 2, 3, 1 + self.random.below(most)][self.random.below(6)];
+        let mut made = Snapshot::empty_with(self.model.places, groups);
         let last = [ABOUT, ABOUT, ABOUT + 4, 0, LATEST - self.random.below(20) as u32][self.random.below(5)];
-        put_number(&mut made.memory, 96, last);
+        put_number(&mut made.memory, self.model.places.last_time, last);
         (0..made.blocks()).for_each(|block| made.set_entry(block, self.entry(last)));
         self.chain(&mut made, last);
         if self.random.below(2) == 0 {
             self.hold(&mut made, last);
         }
-        if self.random.below(20) == 0 {
-            made.memory[32 + self.random.below(72)] ^= 1 << self.random.below(8);
+        // An old box's memory is to be valid.
+        if self.random.below(20) == 0 && !self.model.is_old() {
+            let end = of(&made.memory).page;
+            made.memory[COUNTS + self.random.below(end - COUNTS)] ^= 1 << self.random.below(8);
         }
         made
     }

@@ -1,7 +1,8 @@
 //! Random runs. In each box either a store that is alone up to X and an intruder after it, with Q-6's promise itself: at clocks before
 //! X + R the archive and the host find the store's map at X, and each block so named reads as the content that was put. Or a box of
 //! any damage, in which the two are compared.
-use super::super::call::{last_time, LATEST};
+use super::super::call::LATEST;
+use super::super::places::last_time;
 use super::super::versions::BLOCK;
 use super::super::Checked;
 use super::attacker::Attacker;
@@ -11,7 +12,10 @@ use super::walks::{Walk, Walks};
 use crate::random::Random;
 
 pub fn check(seed: u64, count: usize) -> Checked {
-    let mut walks = Walks::default();
+    Ok(format!("runs: {}", run(Walks::default(), seed, count)?))
+}
+
+pub fn run(mut walks: Walks, seed: u64, count: usize) -> Checked {
     let mut random = Random::new(seed);
     let (mut boxes, mut kept) = (0, 0);
     while walks.made < count {
@@ -28,7 +32,7 @@ pub fn check(seed: u64, count: usize) -> Checked {
     }
     walks.seen.print();
     let seen = walks.seen.check()?;
-    Ok(format!("runs: {} walks in {boxes} boxes, {kept} of them with an intrusion, {seen}", walks.made))
+    Ok(format!("{} walks in {boxes} boxes, {kept} of them with an intrusion, {seen}", walks.made))
 }
 
 fn intrusion(walks: &mut Walks, random: &mut Random, kept: &Kept) -> Result<(), String> {

@@ -1,7 +1,8 @@
 //! Boxes with logs that no store has left.
 use super::super::call::put_number;
+use super::super::places::{self, Places, PRESENT};
 use super::super::versions::snapshot::Snapshot;
-use super::super::versions::{box_of, set_count, BLANK, BLOCK, NOW};
+use super::super::versions::{box_with, set_count, BLANK, BLOCK, NOW};
 use super::TIME;
 
 /// Word and stamp.
@@ -35,7 +36,12 @@ pub fn log_block(records: &[(u32, u32)], pointer: u64) -> [u8; BLOCK] {
 impl Snapshot {
     /// A box whose blocks are all free, none held, and no store.
     pub fn empty(groups: usize) -> Snapshot {
-        let (memory, disk) = box_of(groups, BLANK);
+        Snapshot::empty_with(&PRESENT, groups)
+    }
+
+    /// The same with a memory that has these places.
+    pub fn empty_with(at: &Places, groups: usize) -> Snapshot {
+        let (memory, disk) = box_with(at, groups, BLANK);
         Snapshot { state: Vec::new(), memory, disk }
     }
 
@@ -53,7 +59,8 @@ impl Snapshot {
     /// The group's page, which is on the disk, is held too. From here on entries are set on the held one.
     pub fn hold(&mut self, group: usize) {
         set_count(&mut self.memory, group, 1);
-        self.memory[101..103].copy_from_slice(&[group as u8, 1]);
-        self.memory[104..].copy_from_slice(&self.disk[BLOCK * (65 * group + 64)..][..BLOCK]);
+        let at = places::of(&self.memory);
+        self.memory[at.held..at.zero].copy_from_slice(&[group as u8, 1]);
+        self.memory[at.page..].copy_from_slice(&self.disk[BLOCK * (65 * group + 64)..][..BLOCK]);
     }
 }

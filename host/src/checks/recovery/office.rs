@@ -7,11 +7,14 @@ use super::super::versions::BLOCK;
 use super::walks::Walks;
 use super::PARTS;
 use crate::random::Random;
-use crate::{archive, versions};
+use crate::archive;
 use std::collections::{BTreeMap, BTreeSet};
 
 /// How often each step comes, of 100: a put, a refused one, a flush, a sync, a look, a list; else a new salt.
 const WEIGHTS: [usize; 6] = [80, 4, 3, 3, 5, 3];
+
+/// One store in so many is on the largest box, whose disk takes long to compare.
+const LARGEST_EVERY: usize = 100;
 
 /// What there was at X.
 pub struct Kept {
@@ -39,7 +42,9 @@ pub struct Office<'a> {
 
 impl<'a> Office<'a> {
     pub fn new(walks: &'a mut Walks, random: &'a mut Random) -> Result<Office<'a>, String> {
-        let groups = [1, 1, 1, 2, 2, 3, 16][random.below(7)];
+        let most = walks.stores.pair.model.most_groups;
+        let groups = if random.below(LARGEST_EVERY) == 0 { most } else { [1, 1, 1, 2, 2, 3, 16][random.below(7)] };
+        walks.seen.note_if("a store on the largest box", groups == most);
         let lock = [1, 3, 20, 20, 90, 90, 4000, LATEST - random.below(3) as u32][random.below(8)];
         let now = [0, 1, 1000, 1_000_000_000, LATEST - 9000][random.below(5)];
         walks.stores.load_started(groups, lock)?;
@@ -127,7 +132,8 @@ impl<'a> Office<'a> {
         let now = self.walks.stores.now();
         let mut map = Vec::new();
         for part in 0..PARTS {
-            let [got, own] = [archive::versions_block(&now.state, part), archive::outcome(versions::block(&now.state, part))];
+            let own = (self.walks.stores.pair.model.block)(&now.state, part);
+            let [got, own] = [archive::versions_block(&now.state, part), archive::outcome(own)];
             if got != own || got as u32 != 0 {
                 return Err(format!("the block of part {part} at X is {got:016x}, and by the host's store {own:016x}"));
             }

@@ -1,4 +1,6 @@
 //! Every set of the questions 1, 2, 4 and 6 says no at once, each in several ways: the first in order is answered.
+use super::super::call::MEMORY;
+use super::super::places::PRESENT;
 use super::super::versions::snapshot::Snapshot;
 use super::super::versions::{LAST_TIME, NOW};
 use super::super::Checked;
@@ -38,11 +40,11 @@ fn asked(walks: &mut Walks, no: &[u32], turn: usize, other: usize) -> Result<(),
 
 fn spoil_memory(memory: &mut [u8], walk: &mut Walk, turn: usize) {
     match turn {
-        0 => walk.memory_len = Some(615),
-        1 => walk.memory_len = Some(617),
-        2 => memory[100] = 0,
-        3 => memory[103] = 1,
-        4 => memory[99] = 0x80,
-        _ => memory[615] = 1,
+        0 => walk.memory_len = Some(MEMORY - 1),
+        1 => walk.memory_len = Some(MEMORY + 1),
+        2 => memory[PRESENT.groups] = 0,
+        3 => memory[PRESENT.zero] = 1,
+        4 => memory[PRESENT.last_time + 3] = 0x80,
+        _ => memory[MEMORY - 1] = 1,
     }
 }

@@ -12,7 +12,7 @@ use super::{PARTS, POINT, TIME};
 pub fn check(walks: &mut Walks) -> Checked {
     let before = walks.made;
     parts(walks)?;
-    [1, 2, 16].into_iter().try_for_each(|groups| blocks(walks, groups))?;
+    [1, 2, 16, 64].into_iter().try_for_each(|groups| blocks(walks, groups))?;
     entries(walks)?;
     order(walks)?;
     places(walks)?;
@@ -50,7 +50,7 @@ fn blocks(walks: &mut Walks, groups: usize) -> Result<(), String> {
         made.set_entry(block, frozen(TIME));
         walks.expect_in(&made, POINT, NOW, &[(7, block)])?;
     }
-    for block in [end, end + 1, end + 10, end + 64, 1024, 1034, 2048, 1 << 16 | 10, 1 << 24 | 10, 1 << 31 | 10, u32::MAX - 1, u32::MAX] {
+    for block in [end, end + 1, end + 10, end + 64, 4096, 4106, 8192, 1 << 16 | 10, 1 << 24 | 10, 1 << 31 | 10, u32::MAX - 1, u32::MAX] {
         let mut made = one(groups, &[(7, block)]);
         (1..end).for_each(|block| made.set_entry(block, frozen(TIME)));
         walks.expect_in(&made, POINT, NOW, &[])?;

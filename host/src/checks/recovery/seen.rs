@@ -5,7 +5,7 @@ use std::collections::BTreeMap;
 const NUMBERS: [u32; 5] = [0, 1, 2, 4, 6];
 
 /// What the random runs have to meet.
-const SITUATIONS: [&str; 62] = [
+const SITUATIONS: [&str; 63] = [
     // Where a walk stops; of the reasons by states and times, the only one there.
     "stopped out of range", "a pointer to the end of the box", "a pointer whose low half is in range", "stopped at a block never written",
     "stopped at a lapsed block", "stopped at a block written after X", "stopped a second after X",
@@ -21,8 +21,8 @@ const SITUATIONS: [&str; 62] = [
     "a record of a block that counts down", "a record of a log block", "a record by the held page, not by the disk's",
     "a record at the last place", "a record that supersedes another", "a record that supersedes one of a newer block",
     // A store up to X.
-    "a store without a put", "a store of one log block", "a store of several log blocks", "a store that flushed before X",
-    "a store whose blocks were used again", "a store's call refused", "a new salt before X",
+    "a store on the largest box", "a store without a put", "a store of one log block", "a store of several log blocks",
+    "a store that flushed before X", "a store whose blocks were used again", "a store's call refused", "a new salt before X",
     // An intrusion after X.
     "a log block unfrozen", "a version unfrozen", "a version lengthened", "a log block lengthened", "the reserve written",
     "a spoofed log block in the reserve", "a block freed since X written", "an old page brought", "a restart that loses a page",

@@ -6,11 +6,11 @@ use super::super::Checked;
 use super::{POINT, RESULT};
 use crate::archive;
 
-/// A walk over every block of a box of 16 groups with a page held, and one that is refused.
+/// A walk over every block of a box of 64 groups with a page held, and one that is refused.
 pub fn check() -> Checked {
     let mut paint = vec![0; PAINTED];
-    let mut made = Snapshot::empty(16);
-    (0..1024).for_each(|block| made.log(block, &[(block % 256, block); 63], block as u64 + 1));
+    let mut made = Snapshot::empty(64);
+    (0..4096).for_each(|block| made.log(block, &[(block % 256, block); 63], block as u64 + 1));
     made.hold(3);
     let mut result = [0; RESULT];
     let mut numbers = [9; 2];

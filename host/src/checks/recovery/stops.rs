@@ -16,7 +16,7 @@ const ALL: [(u32, u32); 3] = [(1, 10), (2, 11), (3, 12)];
 pub fn check(walks: &mut Walks) -> Checked {
     let before = walks.made;
     first_block(walks)?;
-    for groups in [1, 2, 16] {
+    for groups in [1, 2, 16, 17, 64] {
         second_block(walks, groups)?;
         pointers(walks, groups)?;
     }
@@ -78,7 +78,8 @@ fn pointers(walks: &mut Walks, groups: usize) -> Result<(), String> {
     let skipped = [ALL[0], ALL[2]];
     let mut cases: Vec<(u64, &[(u32, u32)])> = vec![(1, &ALL), (2, &skipped)];
     cases.extend([0, end - 1, end, end + 1, end + 64, u32::MAX as u64, u64::MAX].map(|pointer| (pointer, &ALL[..1])));
-    cases.extend((10..64).map(|bit| (1 << bit | 1, &ALL[..1])));
+    // Each bit above the numbers of the largest box.
+    cases.extend((12..64).map(|bit| (1 << bit | 1, &ALL[..1])));
     for (pointer, found) in cases {
         let mut made = three(groups, 1, 2);
         made.set_content(0, &log_block(&ALL[..1], pointer));
@@ -166,14 +167,16 @@ fn cycles(walks: &mut Walks) -> Result<(), String> {
 /// Every block of the box is a log block, in the order of their numbers, backwards, and by steps; the last one points to its own
 /// number, to block 0, to one in the middle, or out of the box. A part's last record is in the last log block that has it.
 fn whole_boxes(walks: &mut Walks) -> Result<(), String> {
-    for (groups, step) in [(1, 1), (1, 63), (1, 37), (2, 127), (3, 5), (16, 1), (16, 1023), (16, 389)] {
+    for (groups, step) in [(1, 1), (1, 63), (1, 37), (2, 127), (3, 5), (16, 1), (16, 1023), (16, 389), (17, 1087), (64, 1), (64, 1365)] {
         let end = 64 * groups as u32;
+        // So many blocks are written in a second, two or more, so that all are by the point.
+        let pace = if groups > 16 { 8 } else { 2 };
         let order: Vec<u32> = (0..end).map(|turn| turn * step % end).collect();
         let mut made = Snapshot::empty(groups);
         for (turn, block) in order.iter().enumerate() {
             let next = order.get(turn + 1).copied().unwrap_or(0);
             made.log(*block, &[(turn as u32 % 251, *block); 63], next as u64);
-            made.set_entry(*block, [frozen, counting][turn % 2](TIME + turn as u32 / 2));
+            made.set_entry(*block, [frozen, counting][turn % 2](TIME + (turn / pace) as u32));
         }
         let last = |upto: usize| -> Vec<(u32, u32)> {
             let first = upto.saturating_sub(251);
@@ -188,8 +191,8 @@ fn whole_boxes(walks: &mut Walks) -> Result<(), String> {
             walks.expect_in(&made, POINT, NOW, &last(all))?;
         }
         // As of the time of the block in the middle, those behind it are too new: it stops there, and none of them counts.
-        let point = TIME + middle as u32 / 2;
-        walks.expect(point, NOW, &last(2 * (middle / 2) + 2))?;
+        let point = TIME + (middle / pace) as u32;
+        walks.expect(point, NOW, &last(pace * (middle / pace + 1)))?;
     }
     Ok(())
 }

@@ -1,5 +1,6 @@
 //! The point X and the time at their limits.
 use super::super::call::{put_number, LATEST};
+use super::super::places::PRESENT;
 use super::super::versions::snapshot::Snapshot;
 use super::super::Checked;
 use super::made::frozen;
@@ -16,7 +17,7 @@ pub fn check(walks: &mut Walks) -> Checked {
 /// A log of two blocks, written at these times, each with a record that names itself.
 fn two(times: [u32; 2]) -> Snapshot {
     let mut made = Snapshot::empty(1);
-    put_number(&mut made.memory, 96, 0);
+    put_number(&mut made.memory, PRESENT.last_time, 0);
     for (block, pointer) in [(0, 1), (1, u64::MAX)] {
         made.log(block, &[(block + 1, block)], pointer);
         made.set_entry(block, frozen(times[block as usize]));
@@ -48,7 +49,7 @@ fn nows(walks: &mut Walks) -> Result<(), String> {
     ] {
         for last in [0, now / 2, now] {
             let mut made = two([0, 0]);
-            put_number(&mut made.memory, 96, last);
+            put_number(&mut made.memory, PRESENT.last_time, last);
             made.set_entry(1, (expiry, 1));
             walks.expect_in(&made, u32::MAX, now, if held { &[(1, 0), (2, 1)] } else { &[(1, 0)] })?;
             made.set_entry(0, (expiry, 1));
@@ -62,7 +63,7 @@ fn nows(walks: &mut Walks) -> Result<(), String> {
 fn refused(walks: &mut Walks) -> Result<(), String> {
     for last in [0, 1, 1000, LATEST - 1, LATEST] {
         let mut made = two([0, 0]);
-        put_number(&mut made.memory, 96, last);
+        put_number(&mut made.memory, PRESENT.last_time, last);
         walks.load(&made);
         for point in [0, last, LATEST, u32::MAX] {
             for now in [0, last.wrapping_sub(1), last, last + 1, LATEST - 1, LATEST, LATEST + 1, u32::MAX] {

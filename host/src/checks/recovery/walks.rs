@@ -6,7 +6,7 @@ use super::super::versions::stores::Stores;
 use super::seen::Seen;
 use super::trace::Trace;
 use super::RESULT;
-use crate::{archive, recovery};
+use crate::archive;
 
 /// A call. Where a length is told, memory or disk is not of its own.
 #[derive(Clone, Copy, Debug)]
@@ -35,6 +35,11 @@ pub struct Walks {
 }
 
 impl Walks {
+    /// The host's recovery is of an old box.
+    pub fn migrated() -> Walks {
+        Walks { stores: Stores::migrated(), ..Walks::default() }
+    }
+
     pub fn load(&mut self, made: &Snapshot) {
         self.stores.load(&made.state, &made.memory, &made.disk);
     }
@@ -50,6 +55,7 @@ impl Walks {
         let byte = self.made as u8 & 0x7F;
         let Walk { point, now, result_len, memory_len, disk_len } = *walk;
         let Walks { stores, archive: got, own, .. } = self;
+        let own_recover = stores.pair.model.recover;
         for room in [&mut *got, &mut *own] {
             room.fill(result_len, byte, point as usize % 5);
         }
@@ -57,7 +63,7 @@ impl Walks {
         let (number, right) = stores.pair.call_both(
             [memory_len, disk_len],
             |memory, disk| archive::recover(memory, disk, point, now, by_archive),
-            |memory, disk| recovery::recover(memory, disk, point, now, by_host),
+            |memory, disk| own_recover(memory, disk, point, now, by_host),
         );
         if number != right {
             return Err(self.told(walk, &format!("answered {number} instead of {right}")));

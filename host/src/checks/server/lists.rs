@@ -24,10 +24,10 @@ impl Server<'_> {
             1 => list.put(self.random.below(64), self.block()),
             2 => list.blocks.resize(self.length(list.blocks.len(), 300), 0),
             3 => list.answer_len = self.length(list.answer_len, 700),
-            4 => list.memory_len = Some(self.length(616, 616)),
+            4 => list.memory_len = Some(self.length(self.pair.memory().len(), self.pair.memory().len())),
             5 => list.disk_len = Some(self.disk_length()),
-            6 => return Some((96 + self.random.below(8), 1 << self.random.below(8))),
-            _ => return Some((32 + self.random.below(616 - 32), 1 << self.random.below(8))),
+            6 => return Some(self.header_bit()),
+            _ => return Some(self.memory_bit()),
         }
         None
     }

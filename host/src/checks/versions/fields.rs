@@ -9,9 +9,11 @@ use super::{
 };
 
 const PART: u32 = 9;
-/// Numbers about the ends of boxes of 1, 2 and 16 groups, and of 32 bits.
-const BLOCKS: [u32; 14] =
-    [0, 1, 62, 63, 64, 65, 127, 128, 1022, 1023, 1024, 1 << 31, u32::MAX - 1, u32::MAX];
+/// Numbers about the ends of boxes of 1, 2, 16 and 64 groups, and of 32 bits.
+const BLOCKS: [u32; 16] =
+    [0, 1, 62, 63, 64, 65, 127, 128, 1023, 1024, 4094, 4095, 4096, 1 << 31, u32::MAX - 1, u32::MAX];
+/// A few of them, for the largest box.
+const FEW: [u32; 5] = [0, 1024, 4095, 4096, u32::MAX];
 
 pub fn check(stores: &mut Stores) -> Checked {
     let before = stores.pair.index;
@@ -19,9 +21,9 @@ pub fn check(stores: &mut Stores) -> Checked {
     newest(stores)?;
     (0..=62).try_for_each(|pending| records(stores, pending))?;
     counts(stores)?;
-    for groups in [1, 2, 16] {
-        for reserve in BLOCKS {
-            BLOCKS.into_iter().try_for_each(|last| places(stores, groups, reserve, last))?;
+    for (groups, blocks) in [(1, &BLOCKS[..]), (2, &BLOCKS), (16, &BLOCKS), (64, &FEW)] {
+        for reserve in blocks {
+            blocks.iter().try_for_each(|last| places(stores, groups, *reserve, *last))?;
         }
     }
     Ok(format!("fields of the state: {} calls", stores.pair.index - before))
@@ -60,7 +62,7 @@ fn locks(stores: &mut Stores) -> Result<(), String> {
 /// The newest block of each part at the largest box's end.
 fn newest(stores: &mut Stores) -> Result<(), String> {
     for part in 0..256 {
-        for (block, valid) in [(1023, true), (1024, false), (NONE - 1, false), (NONE, true), (0x0001_0000, false)] {
+        for (block, valid) in [(1024, true), (4095, true), (4096, false), (NONE - 1, false), (NONE, true), (0x0001_0000, false)] {
             let mut state = started(500);
             set_newest(&mut state, part, block);
             judged(stores, &state, valid)?;
@@ -76,7 +78,7 @@ fn records(stores: &mut Stores, pending: usize) -> Result<(), String> {
     judged(stores, &right, true)?;
     for place in [0, pending / 2, pending.saturating_sub(1)].into_iter().filter(|place| *place < pending) {
         for (at, number, valid) in
-            [(0, 255, true), (0, 256, false), (0, NONE, false), (4, 1023, true), (4, 1024, false), (4, NONE, false)]
+            [(0, 255, true), (0, 256, false), (0, NONE, false), (4, 4095, true), (4, 4096, false), (4, NONE, false)]
         {
             let mut state = right.clone();
             put_number(&mut state, RECORDS_AT + 8 * place + at, number);

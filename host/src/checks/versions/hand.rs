@@ -119,20 +119,20 @@ fn full_log() -> Result<(), String> {
     same("no records", &s.state[1040..], &[0xFF; 496])?;
     // 63 versions, 60 unfreezes and the log block: after 64 of these 124 updates the page has left by itself.
     same("the counts", &s.a.memory[32..40], &[124, 0, 0, 0, 0, 0, 0, 0])?;
-    same("G, held and updates", &s.a.memory[100..104], &[2, 0, 60, 0])?;
+    same("G, held and updates", &s.a.memory[292..296], &[2, 0, 60, 0])?;
     s.puts(9, 1064, 99, 65)?;
-    same("G, held and updates", &s.a.memory[100..104], &[2, 1, 1, 0])
+    same("G, held and updates", &s.a.memory[292..296], &[2, 1, 1, 0])
 }
 
 /// Sixty-three puts of as many parts, and the log block with the last of them: the page leaves with it, and a restart loses nothing.
 fn leaving() -> Result<(), String> {
     let mut s = Store::started(2)?;
     (1..=62).try_for_each(|put| s.puts(put, 1000, put as u8, put as u64))?;
-    same("G, held and updates", &s.a.memory[100..104], &[2, 0, 62, 0])?;
+    same("G, held and updates", &s.a.memory[292..296], &[2, 0, 62, 0])?;
     same("block 1's entry on the disk", &s.a.disk[64 * 512 + 8..][..8], &[0, 0, 0, 0, 1, 0, 0, 0])?;
     s.puts(63, 1000, 63, 63)?;
-    same("G, held and updates", &s.a.memory[100..104], &[2, 255, 0, 0])?;
-    same("the held page", &s.a.memory[104..], &[0; 512])?;
+    same("G, held and updates", &s.a.memory[292..296], &[2, 255, 0, 0])?;
+    same("the held page", &s.a.memory[296..], &[0; 512])?;
     same("the count", &s.a.memory[32..36], &[64, 0, 0, 0])?;
     let entry = [0xF4, 0x01, 0, 0, 0xD0, 0x07, 0, 0];
     same("the page on the disk", &s.a.disk[64 * 512..65 * 512], &entry.repeat(64))?;
@@ -154,7 +154,7 @@ fn refusals() -> Result<(), String> {
     let Store { a: Archive { memory: m, disk: d, .. }, state: t } = &mut s;
     answers("part 256", versions_put(t, m, d, 256, 999, &[]), 13)?;
     answers("a state short of a byte", versions_put(&mut t[..1535], m, d, 255, 999, &[]), 1)?;
-    answers("a memory short of a byte", versions_put(t, &mut m[..615], d, 255, 999, &[]), 1)?;
+    answers("a memory short of a byte", versions_put(t, &mut m[..807], d, 255, 999, &[]), 1)?;
     answers("a disk short of a byte", versions_put(t, m, &mut d[..33_279], 255, 999, &[]), 2)?;
     answers("a time gone back", versions_put(t, m, d, 255, 999, &[]), 4)?;
     answers("content of 511 bytes", versions_put(t, m, d, 255, 1000, &[0; 511]), 6)?;

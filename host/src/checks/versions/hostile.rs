@@ -115,6 +115,7 @@ fn replaced(stores: &mut Stores) -> Result<(), String> {
     }
     for (groups, block, right) in [
         (1, 63, Ok(1)), (1, 64, Err(5)), (1, 1023, Err(5)), (2, 127, Ok(1)), (2, 128, Err(5)), (16, 1023, Ok(1)),
+        (16, 1024, Err(5)), (16, 4095, Err(5)), (64, 1024, Ok(1)), (64, 4095, Ok(1)),
     ] {
         for pending in [0, 62] {
             load(stores, groups, block, pending, &[(block.min(64 * groups as u32 - 1), FROZEN)]);

@@ -2,9 +2,10 @@
 //!
 //! Found here: a put that counts its commands as one update, or counts those that it only tries; one whose later commands take the
 //! page from the memory after it has left; one that is refused when the page has left already, and leaves it on the disk; a put or a
-//! flush that does not ask for byte 102, and a flush without records that does.
+//! flush that does not ask for the updates, and a flush without records that does.
 use super::super::call::put_number;
 use super::super::leaving::Tally;
+use super::super::places::PRESENT;
 use super::super::Checked;
 use super::snapshot::Snapshot;
 use super::stores::{Put, Stores, Told};
@@ -23,12 +24,12 @@ pub fn check(stores: &mut Stores) -> Checked {
         (0..64).try_for_each(|way| inside(stores, updates, way))?;
     }
     refused(stores)?;
-    for (groups, lock) in [(1, 5), (2, 9), (16, 9)] {
+    for (groups, lock) in [(1, 5), (2, 9), (16, 9), (17, 9)] {
         long(stores, groups, lock)?;
     }
     for byte in 0..=255 {
-        validity(stores, 102, byte)?;
-        validity(stores, 103, byte)?;
+        validity(stores, PRESENT.updates, byte)?;
+        validity(stores, PRESENT.zero, byte)?;
     }
     Ok(format!("pages that leave in a put: {} calls", stores.pair.index - before))
 }
@@ -39,9 +40,9 @@ fn holding(held: u32, updates: u8, [next, replaced, reserve]: [u32; 3], pending:
     let (memory, disk) = box_of(2, BLANK);
     let mut made = Snapshot { state: started(500), memory, disk };
     [0, 1].into_iter().for_each(|group| set_count(&mut made.memory, group, 1000));
-    made.memory[101..103].copy_from_slice(&[held as u8, updates]);
+    made.memory[PRESENT.held..PRESENT.zero].copy_from_slice(&[held as u8, updates]);
     let page = 512 * (65 * held as usize + 64);
-    made.memory[104..].copy_from_slice(&made.disk[page..][..512]);
+    made.memory[PRESENT.page..].copy_from_slice(&made.disk[page..][..512]);
     made.set_entry(64 * held + 40, FROZEN);
     made.set_entry(64 * replaced + 20, FROZEN);
     put_number(&mut made.state, LAST_AT, 64 * next + 9);
@@ -132,12 +133,12 @@ fn validity(stores: &mut Stores, at: usize, byte: u8) -> Result<(), String> {
     for held in [true, false] {
         let mut made = holding(0, 7, [0; 3], 5);
         if !held {
-            made.memory[101..103].copy_from_slice(&[255, 0]);
-            made.memory[104..].fill(0);
+            made.memory[PRESENT.held..PRESENT.zero].copy_from_slice(&[255, 0]);
+            made.memory[PRESENT.page..].fill(0);
             made.set_entry(20, FROZEN);
         }
         made.memory[at] = byte;
-        let valid = if at == 102 && held { (1..=63).contains(&byte) } else { byte == 0 };
+        let valid = if at == PRESENT.updates && held { (1..=63).contains(&byte) } else { byte == 0 };
         load(stores, &made);
         stores.expect_block(PART, Ok(20))?;
         let number = if valid { 4 } else { 1 };

@@ -10,7 +10,7 @@ use std::collections::BTreeMap;
 pub fn check(stores: &mut Stores, seed: u64) -> Checked {
     let before = stores.pair.index;
     let mut logs = 0;
-    for (groups, lock, puts) in [(1, 3, 300), (1, 1, 700), (2, 20, 500), (16, 60, 400), (16, 400, 700)] {
+    for (groups, lock, puts) in [(1, 3, 300), (1, 1, 700), (2, 20, 500), (16, 60, 400), (16, 400, 700), (64, 60, 130)] {
         stores.load_started(groups, lock)?;
         logs += Alone::new(stores, Random::new(seed + groups as u64)).run(puts)?;
     }

@@ -1,6 +1,7 @@
 //! An office that puts versions at random, and others who command the same box between its calls: most calls are good,
 //! with a time that moves on, and some are spoiled.
-use super::super::call::{last_time, put_number, LATEST};
+use super::super::call::{put_number, LATEST};
+use super::super::places::{groups, last_time};
 use super::super::room::GUARD;
 use super::snapshot::Snapshot;
 use super::stores::{Put, Stores, Told};
@@ -51,11 +52,11 @@ impl Office<'_> {
     }
 
     fn told(&mut self) -> Told {
-        let disk = self.stores.pair.disk().len();
+        let (disk, size) = (self.stores.pair.disk().len(), self.stores.pair.model.places.size);
         let mut told = Told::default();
         match self.random.below(3) {
             0 => told.state = Some([0, 1535, 1537, 1536 + GUARD, self.random.below(1536)][self.random.below(5)]),
-            1 => told.memory = Some([0, 615, 617, 616 + GUARD, self.random.below(616)][self.random.below(5)]),
+            1 => told.memory = Some([0, size - 1, size + 1, size + GUARD, self.random.below(size)][self.random.below(5)]),
             _ => told.disk = Some([0, disk - 512, disk - 1, disk + 1, disk + GUARD][self.random.below(5)]),
         }
         told
@@ -89,14 +90,15 @@ impl Office<'_> {
     fn with_poke(&mut self, call: impl FnOnce(&mut Self) -> Result<(), String>) -> Result<(), String> {
         match self.random.below(6) {
             0 => {
-                self.stores.pair.change_memory(|memory| memory[103] ^= 1);
+                let zero = self.stores.pair.model.places.zero;
+                self.stores.pair.change_memory(|memory| memory[zero] ^= 1);
                 call(self)?;
-                self.stores.pair.change_memory(|memory| memory[103] ^= 1);
+                self.stores.pair.change_memory(|memory| memory[zero] ^= 1);
             }
             1 => {
                 let right = self.stores.state().to_vec();
                 let mut wrong = right.clone();
-                let fields = [(LOCK_AT, 0), (LOCK_AT, LATEST + 1), (PENDING_AT, 63), (1532, 0), (NEWEST_AT, 1024), (RECORDS_AT, 256)];
+                let fields = [(LOCK_AT, 0), (LOCK_AT, LATEST + 1), (PENDING_AT, 63), (1532, 0), (NEWEST_AT, 4096), (RECORDS_AT, 256)];
                 let (at, number) = fields[self.random.below(6)];
                 put_number(&mut wrong, at, number);
                 self.stores.load_state(&wrong);
@@ -125,7 +127,7 @@ impl Office<'_> {
 
     fn any_command(&mut self, now: u32) -> Result<(), String> {
         let kind = [1, 2, 4, 4, 5, 5, 6, 7, 7, 8, 9, 10][self.random.below(12)];
-        let blocks = 64 * self.stores.pair.memory()[100] as usize;
+        let blocks = 64 * groups(self.stores.pair.memory());
         let block = self.random.below(blocks) as u32;
         self.stores.command(kind, block, now, self.random.below(40) as u32).map(|_| ())
     }
@@ -164,11 +166,12 @@ impl Office<'_> {
     /// A newest block, a last taken one or a reserve that is in no group, or that meets another.
     fn change_state(&mut self, made: &mut Snapshot, part: u32) {
         let (blocks, reserve) = (made.blocks(), made.reserve());
+        let end = 64 * self.stores.pair.model.most_groups as u32;
         let any = self.random.below(blocks as usize) as u32;
         let state = &mut made.state;
         match self.random.below(4) {
-            0 => set_newest(state, part, [blocks % 1024, 1023, reserve % 1024][self.random.below(3)]),
-            1 => put_number(state, LAST_AT, [0, blocks - 1, blocks, 1023, 1024, u32::MAX][self.random.below(6)]),
+            0 => set_newest(state, part, [blocks % end, end - 1, reserve % end][self.random.below(3)]),
+            1 => put_number(state, LAST_AT, [0, blocks - 1, blocks, end - 1, end, u32::MAX][self.random.below(6)]),
             2 => put_number(state, RESERVE_AT, [any, blocks - 1, blocks, u32::MAX][self.random.below(4)]),
             _ => put_number(state, LAST_AT, reserve.wrapping_sub(1 + any % 3)),
         }
@@ -181,7 +184,7 @@ impl Office<'_> {
         let version = made.newest(part).filter(|block| *block < blocks).unwrap_or(0);
         match self.random.below(7) {
             0 => set_count(&mut made.memory, self.random.below(blocks as usize / 64), self.nearly_spent()),
-            5 | 6 if made.held() != 255 => made.memory[102] = 61 + self.random.below(3) as u8,
+            5 | 6 if made.held() != 255 => made.set_updates(61 + self.random.below(3) as u8),
             1 | 2 => made.set_entry(version, [(u32::MAX - now, 8), (now, 9), (0, 8)][self.random.below(3)]),
             3 => made.set_entry(made.reserve() % blocks, [(0, 1), (9, 8)][self.random.below(2)]),
             _ => self.leave_free(made, now),
@@ -199,7 +202,7 @@ impl Office<'_> {
         let blocks = made.blocks();
         let (any, reserve) = (self.random.below(blocks as usize) as u32, made.reserve() % blocks);
         if made.held() == reserve / 64 {
-            made.memory[102] = 61 + self.random.below(3) as u8;
+            made.set_updates(61 + self.random.below(3) as u8);
         }
         match self.random.below(4) {
             0 => {

@@ -1,5 +1,6 @@
 //! Every set of questions says no at once to a put, and to a flush: the first in order is answered.
-use super::super::call::put_number;
+use super::super::call::{put_number, MEMORY};
+use super::super::places::PRESENT;
 use super::super::Checked;
 use super::stores::{Put, Stores, Told};
 use super::{
@@ -92,10 +93,10 @@ fn spoiled(state: &mut [u8], memory: &mut [u8], wrong: &Wrong, turn: usize) -> (
     }
     if wrong.has("memory") {
         match turn {
-            0 => told.memory = Some(615),
-            1 => told.memory = Some(617),
-            2 => memory[102] = 1,
-            _ => memory[104] = 1,
+            0 => told.memory = Some(MEMORY - 1),
+            1 => told.memory = Some(MEMORY + 1),
+            2 => memory[PRESENT.updates] = 1,
+            _ => memory[PRESENT.page] = 1,
         }
     }
     if wrong.has("disk") {

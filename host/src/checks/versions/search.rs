@@ -9,7 +9,7 @@ use super::{
 
 pub fn check(stores: &mut Stores) -> Checked {
     let before = stores.pair.index;
-    for last in (0..=66).chain([127, 1023, 1024, u32::MAX]) {
+    for last in (0..=66).chain([127, 1023, 1024, 4096, u32::MAX]) {
         for free in [&[][..], &[0], &[63], &[17, 40], &[0, 63], &[0, 1, 2], &[5, 6, 62, 63], &[30, 31, 32, 33]] {
             for reserve in free.iter().copied().chain([8, 64, u32::MAX]) {
                 one(stores, 1, free, last, reserve)?;
@@ -24,6 +24,12 @@ pub fn check(stores: &mut Stores) -> Checked {
                     one(stores, groups, free, last, reserve)?;
                 }
             }
+        }
+    }
+    for last in [0, 1023, 4094, 4095, 4096] {
+        for free in [&[1023, 1024][..], &[4094, 4095], &[4095, 0, 64]] {
+            one(stores, 64, free, last, free[0])?;
+            one(stores, 64, free, last, 3)?;
         }
     }
     whole_boxes(stores)?;
@@ -90,7 +96,7 @@ fn next_reserve(stores: &Stores, stored: bool, free: &[u32], last: u32, reserve:
 
 /// Empty boxes are filled, block by block: all but the reserve's and one more.
 fn whole_boxes(stores: &mut Stores) -> Result<(), String> {
-    for groups in [1, 2, 16] {
+    for groups in [1, 2, 16, 17] {
         stores.load_started(groups, 100)?;
         let (mut right, mut reserve) = (0, 0);
         for turn in 1.. {

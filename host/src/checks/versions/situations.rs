@@ -1,5 +1,6 @@
 //! Which situations a call was in, by what was there before it and what it answered.
 use super::super::call::{number, LATEST};
+use super::super::places;
 use super::seen::Seen;
 use super::snapshot::Snapshot;
 use super::stores::Put;
@@ -85,7 +86,7 @@ fn of_block(seen: &mut Seen, before: &Snapshot, put: &Put, block: u32) {
 /// Where an accepted put's commands went.
 fn of_groups(seen: &mut Seen, before: &Snapshot, replaced: Option<u32>, block: u32, reserve: u32) {
     let (group, held, log) = (block / 64, before.held(), before.pending() == MOST_PENDING);
-    for name in [(1, "a box of 1 group"), (2, "a box of 2 groups"), (16, "a box of 16 groups")] {
+    for name in [(1, "a box of 1 group"), (2, "a box of 2 groups"), (16, "a box of 16 groups"), (64, "a box of 64 groups")] {
         seen.note(name.1, before.blocks() == 64 * name.0);
     }
     seen.note("the replaced version is the block taken", replaced == Some(block));
@@ -154,7 +155,8 @@ fn of_command_refused(seen: &mut Seen, before: &Snapshot, put: &Put, replaced: O
 
 pub fn of_flush(seen: &mut Seen, before: &Snapshot, now: u32, done: Result<(), Refusal>) {
     let pending = if before.state.len() == STATE { before.pending() } else { 0 };
-    let memory_invalid = before.memory.len() != 616 || before.memory[103] != 0;
+    let at = places::of(&before.memory);
+    let memory_invalid = before.memory.len() != at.size || before.memory[at.zero] != 0;
     match done {
         Ok(()) => {
             seen.note("a flush without records", pending == 0);

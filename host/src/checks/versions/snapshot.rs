@@ -1,6 +1,7 @@
 //! State, memory and disk at one moment, and what a tester reads off them. The places are written out from the papers and
 //! not taken from the model.
-use super::super::call::{last_time, number, page, put_number};
+use super::super::call::{number, page, put_number};
+use super::super::places;
 use super::{LAST_AT, LOCK_AT, NEWEST_AT, NONE, PENDING_AT, RESERVE_AT};
 
 #[derive(Clone)]
@@ -12,20 +13,26 @@ pub struct Snapshot {
 
 impl Snapshot {
     pub fn blocks(&self) -> u32 {
-        64 * self.memory[100] as u32
+        64 * places::groups(&self.memory) as u32
     }
 
     pub fn last_time(&self) -> u32 {
-        last_time(&self.memory)
+        places::last_time(&self.memory)
     }
 
     pub fn held(&self) -> u32 {
-        self.memory[101] as u32
+        places::held(&self.memory) as u32
     }
 
     /// The updates to the held page.
     pub fn updates(&self) -> u32 {
-        self.memory[102] as u32
+        places::updates(&self.memory) as u32
+    }
+
+    /// A held page has had so many updates.
+    pub fn set_updates(&mut self, updates: u8) {
+        let at = places::of(&self.memory).updates;
+        self.memory[at] = updates;
     }
 
     pub fn lock(&self) -> u32 {
@@ -57,7 +64,8 @@ impl Snapshot {
     /// Another entry for a block of the box, on its group's current page.
     pub fn set_entry(&mut self, block: u32, (word, stamp): (u32, u32)) {
         let (group, place) = (block as usize / 64, 8 * (block as usize % 64));
-        let page = if self.held() == group as u32 { &mut self.memory[104..] } else { &mut self.disk[512 * (65 * group + 64)..] };
+        let held_at = places::of(&self.memory).page;
+        let page = if self.held() == group as u32 { &mut self.memory[held_at..] } else { &mut self.disk[512 * (65 * group + 64)..] };
         put_number(page, place, word);
         put_number(page, place + 4, stamp);
     }

@@ -6,10 +6,10 @@ use crate::archive;
 
 pub fn check() -> Checked {
     let mut paint = vec![0; PAINTED];
-    let (mut memory, mut disk) = box_of(16, BLANK);
-    super::set_entry(&mut disk, 700, FROZEN);
+    let (mut memory, mut disk) = box_of(64, BLANK);
+    super::set_entry(&mut disk, 4000, FROZEN);
     let mut state = started(500);
-    set_newest(&mut state, 255, 700);
+    set_newest(&mut state, 255, 4000);
     set_records(&mut state, &some_records(62));
     let mut numbers = [9; 4];
     let most = used(&mut paint, &mut || {

@@ -1,12 +1,11 @@
 //! The archive's version store and the host's, kept in step: each call goes to both, and then the numbers, the blocks,
 //! every byte of state, memory, disk and content, and the canaries around them, are compared.
-use super::super::call::{number, GROUP, MEMORY};
+use super::super::call::{number, GROUP};
 use super::super::pair::Pair;
 use super::super::room::Room;
 use super::seen::Seen;
 use super::snapshot::Snapshot;
 use super::{situations, RESERVE_AT, STATE};
-use crate::controller::OwnDigest;
 use crate::versions::Refusal;
 use crate::{archive, versions};
 
@@ -49,6 +48,11 @@ pub struct Stores {
 }
 
 impl Stores {
+    /// The host's store is on an old box.
+    pub fn migrated() -> Stores {
+        Stores { pair: Pair::migrated(), ..Stores::default() }
+    }
+
     /// Gives both stores this state, memory and disk.
     pub fn load(&mut self, state: &[u8], memory: &[u8], disk: &[u8]) {
         self.load_state(state);
@@ -63,8 +67,8 @@ impl Stores {
 
     /// Loads a formatted box, and starts a store on it.
     pub fn load_started(&mut self, groups: usize, lock: u32) -> Result<(), String> {
-        self.load(&[0xAA; STATE], &[0; MEMORY], &vec![0; GROUP * groups]);
-        self.pair.expect_format(groups as u32, &[3; 32], 0)?;
+        self.load_state(&[0xAA; STATE]);
+        self.pair.load_formatted_over(&vec![0; GROUP * groups], 0, groups as u32, &[3; 32])?;
         self.expect_start(lock, None, 0)
     }
 
@@ -102,13 +106,14 @@ impl Stores {
             side.content.put(&put.content, self.pair.index % 5);
         }
         let Stores { archive: a, own: b, pair, .. } = self;
+        let own_put = pair.model.put;
         let (state, content) = (a.state.view_mut(len), a.content.part());
         let by_archive = |memory: &mut [u8], disk: &mut [u8]| {
             (archive::versions_put(state, memory, disk, part, now, content), Ok(0))
         };
         let (state, content) = (b.state.view_mut(len), b.content.part());
         let by_host = |memory: &mut [u8], disk: &mut [u8]| {
-            let done = versions::put::<OwnDigest>(state, memory, disk, part, now, content);
+            let done = own_put(state, memory, disk, part, now, content);
             (archive::outcome(done.map_err(|refusal| refusal.number)), done)
         };
         let ((got, _), (right, done)) = pair.call_both([told.memory, told.disk], by_archive, by_host);
@@ -130,11 +135,12 @@ impl Stores {
         let before = self.now();
         let len = told.state.unwrap_or(self.state().len());
         let Stores { archive: a, own: b, pair, .. } = self;
+        let own_flush = pair.model.flush;
         let state = a.state.view_mut(len);
         let by_archive = |memory: &mut [u8], disk: &mut [u8]| (archive::versions_flush(state, memory, disk, now), Ok(()));
         let state = b.state.view_mut(len);
         let by_host = |memory: &mut [u8], disk: &mut [u8]| {
-            let done = versions::flush::<OwnDigest>(state, memory, disk, now);
+            let done = own_flush(state, memory, disk, now);
             (done.err().map_or(0, |refusal| refusal.number), done)
         };
         let ((got, _), (right, done)) = pair.call_both([told.memory, told.disk], by_archive, by_host);
@@ -157,7 +163,7 @@ impl Stores {
         self.pair.index += 1;
         let len = state_len.unwrap_or(self.state().len());
         let got = archive::versions_block(self.archive.state.view_mut(len), part);
-        let right = versions::block(self.own.state.view_mut(len), part);
+        let right = (self.pair.model.block)(self.own.state.view_mut(len), part);
         let what = format!("block of part {part}, state of {len}");
         self.compare(&what, got, archive::outcome(right), Some(&before))?;
         self.seen.block(right.err().unwrap_or(0));
