@@ -80,10 +80,6 @@ module _ {γ : Geometry} (σ : Proper γ) where
         changed-reads σ (s .memory) (q .memory .size) (groupOf γ (c .block)) (changedPage γ u c)
         (omega (arith, changed-group σ u s c x, q .memory .most)) (omega (arith, x .unexhausted)) (changed-length σ u c (x .proof))
 
-    pub change-time : lastTime γ (change γ u s c .memory) ≡ lastTime γ (s .memory)
-    unfolding change
-    change-time = change-reads .time
-
     -- the changed page is held, or has left
     pub change-holds : pageLeaves γ (s .memory) (groupOf γ (c .block)) ≡ false → held γ (change γ u s c .memory) ≡ groupOf γ (c .block)
     unfolding change

@@ -4,7 +4,7 @@ use mathlib.Core.Bool.{Bool, true, false}
 use mathlib.Core.List.{List, [], _∷_, _++_}
 use Prim.Native.Nat.{ℕ, _+_, _^_, _≤_, _<_}
 use native.Mathlib.Omega.{arith}
-use borrow.Author.Tests.{eq-eqb, ne-eqb, ltb-true, ltb-false, lt-ltb, le-ltb}
+use borrow.Author.Tests.{eq-eqb, ne-eqb, ltb-false, lt-ltb, le-ltb}
 use lib.Dec.{eqb}
 use lib.ListN.{length}
 use Rattle.octets.specs.Part.{repeated}
@@ -42,10 +42,6 @@ module _ {γ : Geometry} (σ : Proper γ) where
         go : (b : Bool) → 1 ≤ elim b [ true ↦ updateCount γ m + 1 | false ↦ 1 ]
         go true = omega arith
         go false = omega arith
-
-    pub leaves-many : pageLeaves γ m g ≡ true → mostUpdates < nextUpdateCount γ m g
-    unfolding pageLeaves
-    leaves-many e = ltb-true mostUpdates (nextUpdateCount γ m g) e
 
     pub stays-few : pageLeaves γ m g ≡ false → nextUpdateCount γ m g ≤ mostUpdates
     unfolding pageLeaves

@@ -20,11 +20,9 @@ use Rattle.lockpage.specs.declared.Update.the-variants.{Write, Unfreeze, Increm
 use Rattle.lockpage.specs.Entry.{EntryFits, timeOfWrite, flag, frozenFlag, unfrozenFlag}
 use Rattle.lockpage.specs.State.{state}
 use Rattle.lockpage.specs.Update.{latestTime, expiryAt, updated, allowed, withinLimit}
-use Rattle.lockpage.specs.Page.{entryAt}
 use Rattle.lockpage.proofs.StateLaw.{Says, says}
 use Rattle.lockpage.proofs.UpdateLaw.{expiry-later, expiry-longer, updated-fits, unfrozen-word, unfrozen-flag, unfrozen-time, grown-word, grown-stamp}
 use Rattle.lockpage.proofs.UpdateLaw.{grown-time, allowed-write, allowed-unfreeze}
-use Rattle.addressing.specs.Map.{placeOf}
 use Rattle.memory.specs.Memory.{lastTime}
 use Rattle.machine.specs.Command.{Box}
 use Rattle.machine.proofs.WatchedLaw.{Watched}
@@ -98,10 +96,6 @@ safe-updated w (Increment value) e t h s b m a k n =
 
 -- γ is the box's geometry
 module _ (γ : Geometry) where
-  -- the block's entry on a page of its group
-  abbrev pub SafePage : Watch → List ℕ → Type 0
-  SafePage w p = Safe w (entryAt p (placeOf γ (w .block)))
-
   -- the content is the start's, and the entry is safe on each page
   abbrev pub SafeBox : Watch → Box → Type 0
   SafeBox w s = Watched γ (w .block) (λ l. l ≡ w .content) (Safe w) s

@@ -8,8 +8,8 @@ use native.Mathlib.Omega.{arith}
 use lib.ListN.{length, length-append}
 use Rattle.octets.specs.Part.{part, replaced, repeated}
 use Rattle.octets.specs.Number.{number, bytes, numberAt, withNumber}
-use Rattle.octets.proofs.PartLaw.{part-length, part-all, part-part, part-add, part-left, part-right, part-first, part-second}
-use Rattle.octets.proofs.RepeatedLaw.{repeated-length, repeated-part, repeated-add}
+use Rattle.octets.proofs.PartLaw.{part-length, part-all, part-add, part-left, part-right, part-first, part-second}
+use Rattle.octets.proofs.RepeatedLaw.{repeated-length, repeated-part, repeated-add, repeated-within}
 use Rattle.octets.proofs.ReplacedLaw.{replaced-length, replaced-front, replaced-back, replaced-all, replaced-append}
 use Rattle.octets.proofs.NumberLaw.{bytes-length, numberAt-zeros}
 use Rattle.lockpage.specs.Geometry.{Geometry, Proper, widened}
@@ -167,9 +167,7 @@ module _ {γ : Geometry} (σ : Proper γ) {n : ℕ} (ω : Wider γ n) where
         let d : ℕ = countStart k - timeStart γ in
         numberAt-zeros (migrated γ n m) (countStart k) countSize
         (ap (λ (i : ℕ). part (migrated γ n m) i countSize) (omega arith)
-        ∙ sym (part-part (migrated γ n m) (timeStart γ) newSize d countSize (omega arith))
-        ∙ ap (λ (x : List ℕ). part x d countSize) (part-new m l)
-        ∙ repeated-part newSize 0 d countSize (omega arith))
+        ∙ repeated-within (migrated γ n m) (timeStart γ) newSize d countSize 0 (omega arith) (part-new m l))
 
     pub migrated-time : lastTime (widened γ n) (migrated γ n m) ≡ lastTime γ m
     unfolding lastTime

@@ -8,8 +8,8 @@ use borrow.Author.Tests.{lt-ltb, ltb-true, ltb-false}
 use lib.Dec.{ltb}
 use lib.ListN.{length}
 use Rattle.octets.specs.Part.{part, repeated}
-use Rattle.octets.proofs.PartLaw.{part-part, part-add}
-use Rattle.octets.proofs.RepeatedLaw.{repeated-part, repeated-add}
+use Rattle.octets.proofs.PartLaw.{part-add}
+use Rattle.octets.proofs.RepeatedLaw.{repeated-add, repeated-within}
 use Rattle.lockpage.specs.Geometry.{Geometry, Proper, widened}
 use Rattle.memory.specs.Layout.{memorySize, countStart, timeStart}
 use Rattle.memory.specs.Memory.{salt, count, lastTime, groups, held, none, updateCount, heldPage}
@@ -66,9 +66,7 @@ module _ {γ : Geometry} (σ : Proper γ) {n : ℕ} (ω : Wider γ n) where
       unused-before u =
           sym (part-front σ ω m l (countStart g) before (omega arith))
           ∙ ap (λ (at : ℕ). part (migrated γ n m) at before) (omega arith)
-          ∙ sym (part-part (migrated γ n m) (countStart g) after 0 before (omega (arith, ω .more)))
-          ∙ ap (λ (x : List ℕ). part x 0 before) u
-          ∙ repeated-part after 0 0 before (omega (arith, ω .more))
+          ∙ repeated-within (migrated γ n m) (countStart g) after 0 before 0 (omega (arith, ω .more)) u
 
     -- ---- both ways
 

@@ -10,8 +10,7 @@ use lib.Dec.{eqb}
 use lib.ListN.{length}
 use Rattle.octets.specs.Part.{part, repeated}
 use Rattle.octets.proofs.EqualLaw.{equal-true, equal-yes}
-use Rattle.octets.proofs.PartLaw.{part-part}
-use Rattle.octets.proofs.RepeatedLaw.{repeated-length, repeated-part}
+use Rattle.octets.proofs.RepeatedLaw.{repeated-length, repeated-within}
 use Rattle.octets.proofs.NumberLaw.{numberAt-zeros}
 use Rattle.lockpage.specs.Geometry.{Geometry, Proper}
 use Rattle.lockpage.specs.Size.{pageSize}
@@ -300,9 +299,7 @@ module _ {γ : Geometry} (σ : Proper γ) where
         let place : from + countSize * (g - groups γ m) ≡ countStart g = omega arith in
         numberAt-zeros m (countStart g) countSize
         (ap (λ (at : ℕ). part m at countSize) (sym place)
-        ∙ sym (part-part m from (timeStart γ - from) (countSize * (g - groups γ m)) countSize (omega arith))
-        ∙ ap (λ (l : List ℕ). part l (countSize * (g - groups γ m)) countSize) (v .unused)
-        ∙ repeated-part (timeStart γ - from) 0 (countSize * (g - groups γ m)) countSize (omega arith))
+        ∙ repeated-within m from (timeStart γ - from) (countSize * (g - groups γ m)) countSize 0 (omega arith) (v .unused))
 
   -- the memory of formatting
   pub valid-formatted : (g : ℕ) (s : List ℕ) → 1 ≤ g → g ≤ γ .mostGroups → length s ≡ saltSize → valid γ (formattedMemory γ g s) ≡ true

@@ -146,11 +146,5 @@ module _ {γ : Geometry} (σ : Proper γ) where
         let y = called γ ρ x c in
         onward-on (x .box) (y .box) (calls γ ρ y cs .box) (call-onward x c) (calls-onward y cs)
 
-    pub calls-valid : (x : Site) (cs : List Call) → ValidBox γ (x .box) → ValidBox γ (calls γ ρ x cs .box)
-    calls-valid x cs = calls-onward x cs .valid
-
     pub calls-groups : (x : Site) (cs : List Call) → groups γ (calls γ ρ x cs .box .memory) ≡ groups γ (x .box .memory)
     calls-groups x cs = calls-onward x cs .same-groups
-
-    pub calls-time : (x : Site) (cs : List Call) → lastTime γ (x .box .memory) ≤ lastTime γ (calls γ ρ x cs .box .memory)
-    calls-time x cs = calls-onward x cs .later
