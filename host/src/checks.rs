@@ -15,6 +15,7 @@ pub mod pages;
 pub mod pair;
 pub mod places;
 pub mod recovery;
+pub mod report;
 pub mod room;
 pub mod runs;
 pub mod script;
