@@ -96,7 +96,21 @@ def table():
     return {old: to for old, to in new.items() if old != to}, kinds, homes
 
 
+def brought(text):
+    """The names that a file brings from the library: those keep their spelling in it."""
+    own = {os.path.basename(it) for it in glob.glob("crates/*")}
+    out = set()
+    for found in re.finditer(r"(?m)^(?:ghost )?(?:pub )?use ([^\s{]+)\{([^}]*)\}", text):
+        parts = found[1].split(".")
+        if parts[0] != "Rattle" or parts[1] not in own:
+            out.update(it.split(" as ")[0].strip() for it in found[2].split(","))
+    return out
+
+
 def turned(text, new, comments):
+    kept = brought(text)
+    new = {old: to for old, to in new.items() if old not in kept}
+
     def one(found):
         return new.get(found[0], found[0])
 

@@ -4,7 +4,7 @@ use mathlib.Core.Path.{◌≡◌, refl, ap, sym, ◌∙◌}
 use mathlib.Core.List.{List, [], ◌∷◌, ◌++◌, append_assoc}
 use Prim.Native.Nat.{ℕ, ◌+◌, ◌-◌, ◌^◌, ◌<◌}
 use native.Mathlib.Omega.{arith}
-use lib.ListN.{length, drop, length_append}
+use lib.ListN.{length, drop, length-append}
 use Rattle.octets.specs.Part.{part, replaced, repeated}
 use Rattle.octets.specs.Number.{bytes, with_number}
 use Rattle.octets.proofs.RepeatedLaw.{repeated_length}
@@ -59,7 +59,7 @@ module _ {γ : Geometry} (σ : Proper γ) where
       let k = state_number (state now e) in
       let lx : length x ≡ entry_size = entry_bytes_length e in
       let ly : length y ≡ time_left_size = time_left_bytes_length now e in
-      let lxy : length (x ++ y) ≡ state_place = length_append x y ∙ omega arith in
+      let lxy : length (x ++ y) ≡ state_place = length-append x y ∙ omega arith in
       let number : n ≡ k = en ∙ ap state_number es in
       let small : n < 256 = omega (arith, number, state_number_byte (state now e)) in
       let zeros : z ≡ repeated (answer_size γ) 0 =
@@ -129,7 +129,7 @@ module _ {γ : Geometry} (σ : Proper γ) where
         let y = bytes identify_size (data_blocks γ g) in
         let lx : length x ≡ identify_size = bytes_length identify_size g in
         let ly : length y ≡ identify_size = bytes_length identify_size (data_blocks γ g) in
-        let lxy : identify_size + identify_size ≡ length (x ++ y) = sym (length_append x y ∙ omega arith) in
+        let lxy : identify_size + identify_size ≡ length (x ++ y) = sym (length-append x y ∙ omega arith) in
         let second : b ≡ replaced answer 0 (x ++ y) =
         replaced_next answer a x y b identify_size ea (sym lx) (omega arith)
         (eb ∙ ap (λ (k : ℕ). replaced a identify_size (bytes identify_size k)) en) in

@@ -4,7 +4,7 @@ use mathlib.Core.List.{List, [], ◌++◌}
 use Prim.Native.Nat.{ℕ, ◌+◌, ◌-◌, ◌≤◌}
 use native.Mathlib.Nat.{zero-add}
 use native.Mathlib.Omega.{arith}
-use lib.ListN.{length, drop, length_append}
+use lib.ListN.{length, drop, length-append}
 use Rattle.octets.specs.Part.{part, replaced, repeated}
 use Rattle.octets.proofs.RepeatedLaw.{repeated_drop, repeated_length, repeated_part}
 use Rattle.octets.proofs.ReplacedLaw.{replaced_all, replaced_next}
@@ -22,7 +22,7 @@ module _ {γ : Geometry} (σ : Proper γ) where
       let zeros = repeated (answer_size γ - from) 0 in
       let size : length zeros ≡ answer_size γ - from = repeated_length (answer_size γ - from) 0 in
       replaced_next answer front named zeros r from e ef (omega arith) er
-      ∙ replaced_all answer (named ++ zeros) (length_append named zeros ∙ omega arith)
+      ∙ replaced_all answer (named ++ zeros) (length-append named zeros ∙ omega arith)
       ∙ ap (λ (n : ℕ). named ++ repeated (answer_size γ - n) 0) ef
 
   -- the zeros come first, and what is named is stored over them

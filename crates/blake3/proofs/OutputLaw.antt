@@ -5,7 +5,7 @@ use mathlib.Core.List.{List, [], ◌∷◌, ◌++◌, append-nil, append_assoc}
 use native.Mathlib.Numerals.{add-one}
 use native.Mathlib.Omega.{arith}
 use lib.Dec.{lit<}
-use lib.ListN.{length, take, get_or, length_append}
+use lib.ListN.{length, take, get_or, length-append}
 use lib.Seq.{take_at, drop_at, take-suc, take_all, length-take-le}
 use Rattle.octets.specs.Part.{AreBytes, Below, replaced}
 use Rattle.octets.specs.Number.{number, bytes, with_number}
@@ -17,7 +17,7 @@ use Rattle.blake3.specs.Blake3 as B
 pub bytes_of_length : (ws : List ℕ) → length (B.bytes_of ws) ≡ 4 * length ws
 unfolding B.bytes_of
 bytes_of_length [] = refl
-bytes_of_length (x ∷ ws) = omega (arith, length_append (bytes 4 x) (B.bytes_of ws), bytes_length 4 x, bytes_of_length ws)
+bytes_of_length (x ∷ ws) = omega (arith, length-append (bytes 4 x) (B.bytes_of ws), bytes_length 4 x, bytes_of_length ws)
 
 pub bytes_of_are : (ws : List ℕ) → AreBytes (B.bytes_of ws)
 unfolding B.bytes_of
@@ -89,7 +89,7 @@ stored_two l x y a b h ex ey =
     ∙ ap (λ (r : List ℕ). replaced r (4 * length a) (B.bytes_of b)) ex
     ∙ ap (λ (n : ℕ). replaced (replaced l 0 (B.bytes_of a)) n (B.bytes_of b)) place
     ∙ replaced_append l 0 (B.bytes_of a) (B.bytes_of b) (omega arith)
-    ∙ replaced_all l (B.bytes_of a ++ B.bytes_of b) (omega (arith, length_append (B.bytes_of a) (B.bytes_of b)))
+    ∙ replaced_all l (B.bytes_of a ++ B.bytes_of b) (omega (arith, length-append (B.bytes_of a) (B.bytes_of b)))
     ∙ sym (bytes_of_append a b)
 
 -- a run of words that fills a list

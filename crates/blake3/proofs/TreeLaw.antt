@@ -4,7 +4,7 @@ use mathlib.Core.Path.{◌≡◌, refl, ap, ap₂, sym, ◌∙◌}
 use mathlib.Core.List.{List, ◌++◌, append-nil}
 use native.Mathlib.Omega.{arith}
 use borrow.Author.Tests.{le-leb, lt-leb}
-use lib.ListN.{length, take, drop, length-take, length-drop, length_append}
+use lib.ListN.{length, take, drop, length-take, length-drop, length-append}
 use lib.Seq.{take_all}
 use Rattle.octets.specs.Part.{Below, part, replaced, repeated}
 use Rattle.octets.proofs.BelowLaw.{below_append}
@@ -87,7 +87,7 @@ parent_of z x y l r h root hz hl hr sl sr ex ey e =
     let place : 32 ≡ 4 * length l = omega arith in
     let is : y ≡ B.bytes_of (l ++ r) =
     stored_two z x y l r (omega arith) ex (ey ∙ ap (λ (n : ℕ). replaced x n (B.bytes_of r)) place) in
-    let joined : length (l ++ r) ≡ 16 = omega (arith, length_append l r) in
+    let joined : length (l ++ r) ≡ 16 = omega (arith, length-append l r) in
     let size : length y ≡ B.block_size = ap length is ∙ omega (arith, bytes_of_length (l ++ r)) in
     let whole : part y 0 B.block_size ≡ y = part_all y B.block_size (omega arith) in
     let read : B.words 16 y ≡ l ++ r =

@@ -9,7 +9,7 @@ use native.Mathlib.Numerals.{add-one}
 use native.Mathlib.Omega.{arith}
 use borrow.Author.Tests.{ltb-true, ltb-false, lt-ltb, le-ltb}
 use lib.Dec.{ltb, lit<}
-use lib.ListN.{length, get_or, length_append, get_or-append}
+use lib.ListN.{length, get_or, length-append, get_or-append}
 use lib.Seq.{get_or_at}
 use lib.IntN.{ℤ, pos, negsuc}
 use mir.Syntax.{w64}
@@ -70,7 +70,7 @@ by_digits P one more (suc m) n h =
     ⊎_elim (λ s. one n s) (λ s. more n s (by_digits P one more m (n / 10) (omega arith))) (below n 10)
 
 pub decimal_longer : (n : ℕ) → 10 ≤ n → length (decimal n) ≡ length (decimal (n / 10)) + 1
-decimal_longer n h = ap length (decimal_more n h) ∙ length_append (decimal (n / 10)) ((zero_digit + n % 10) ∷ [])
+decimal_longer n h = ap length (decimal_more n h) ∙ length-append (decimal (n / 10)) ((zero_digit + n % 10) ∷ [])
 
 -- every byte is a digit
 abbrev AreDigits : List ℕ → Type 0
@@ -84,7 +84,7 @@ are_more : (l : List ℕ) (n : ℕ) → n < 10 → AreDigits l → AreDigits (l 
 are_more l n h a i k =
     ⊎_elim (λ s. rw (get_or-append l ((zero_digit + n) ∷ []) 0 i s) (a i s))
     (λ (s : length l ≤ i).
-    let e : length l ≡ i = omega (arith, length_append l ((zero_digit + n) ∷ [])) in
+    let e : length l ≡ i = omega (arith, length-append l ((zero_digit + n) ∷ [])) in
     rw (get_or_at l (zero_digit + n) [] 0 i e) (omega arith, omega arith))
     (below i (length l))
 

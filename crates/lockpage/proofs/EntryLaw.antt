@@ -5,7 +5,7 @@ use mathlib.Core.List.{List, ◌++◌}
 use Prim.Native.Nat.{ℕ, ◌+◌, ◌%◌, ◌≤◌, ◌<◌}
 use native.Mathlib.Omega.{arith}
 use borrow.Author.Tests.{eqb-true, eqb-false, eq-eqb, ne_eqb}
-use lib.ListN.{length, length_append}
+use lib.ListN.{length, length-append}
 use Rattle.octets.specs.Part.{AreBytes, part}
 use Rattle.octets.specs.Number.{bytes, number, number_at}
 use Rattle.octets.proofs.BelowLaw.{below_append, below_part}
@@ -18,7 +18,7 @@ use Rattle.lockpage.specs.Entry.{entry, entry_bytes, entry_of, EntryFits, stamp_
 pub entry_bytes_length : (e : Entry) → length (entry_bytes e) ≡ entry_size
 unfolding entry_bytes
 entry_bytes_length e =
-    length_append (bytes word_size e.word) _ ∙ ap₂ ◌+◌ (bytes_length word_size e.word) (bytes_length word_size _)
+    length-append (bytes word_size e.word) _ ∙ ap₂ ◌+◌ (bytes_length word_size e.word) (bytes_length word_size _)
 
 pub entry_bytes_are : (e : Entry) → AreBytes (entry_bytes e)
 unfolding entry_bytes

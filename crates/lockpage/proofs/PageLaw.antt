@@ -5,7 +5,7 @@ use Prim.Native.Nat.{ℕ, zero, suc, ◌+◌, ◌*◌, ◌≤◌, ◌<◌}
 use native.Mathlib.Nat.{add-zero}
 use native.Mathlib.Numerals.{add-one}
 use native.Mathlib.Omega.{arith}
-use lib.ListN.{length, length_append}
+use lib.ListN.{length, length-append}
 use Rattle.octets.specs.Part.{AreBytes, part, replaced}
 use Rattle.octets.specs.Number.{number, number_at, with_number, bytes}
 use Rattle.octets.proofs.BelowLaw.{below_none, below_append, below_part, below_replaced}
@@ -77,7 +77,7 @@ entry_stored p q r i e h eq er =
 pub repeated_entry_length : (n : ℕ) (e : Entry) → length (repeated_entry n e) ≡ entry_size * n
 unfolding repeated_entry
 repeated_entry_length zero e = refl
-repeated_entry_length (suc n) e = length_append (entry_bytes e) (repeated_entry n e) ∙ omega (arith, entry_bytes_length e, repeated_entry_length n e)
+repeated_entry_length (suc n) e = length-append (entry_bytes e) (repeated_entry n e) ∙ omega (arith, entry_bytes_length e, repeated_entry_length n e)
 
 repeated_entry_are : (n : ℕ) (e : Entry) → AreBytes (repeated_entry n e)
 unfolding repeated_entry

@@ -5,7 +5,7 @@ use mathlib.Core.List.{List, [], ◌∷◌, ◌++◌, append_assoc}
 use Prim.Native.Nat.{ℕ, ◌+◌, ◌-◌, ◌≤◌, ◌<◌}
 use native.Mathlib.Omega.{arith}
 use borrow.Author.Tests.{ltb-true}
-use lib.ListN.{length, length_append}
+use lib.ListN.{length, length-append}
 use Rattle.octets.specs.Part.{part, repeated, equal}
 use Rattle.octets.proofs.PartLaw.{part_left, part_right, part_first, part_second}
 use Rattle.octets.proofs.EqualLaw.{equal_yes}
@@ -80,9 +80,9 @@ module _ {γ : Geometry} (σ : Proper γ) where
       let rest : List ℕ = time_left_bytes now e ++ (state_number (state now e) ∷ []) in
       let named : List ℕ = entry_bytes e ++ rest in
       let size : length rest ≡ time_left_size + 1 =
-      length_append (time_left_bytes now e) (state_number (state now e) ∷ []) ∙ omega (arith, time_left_bytes_length now e) in
+      length-append (time_left_bytes now e) (state_number (state now e) ∷ []) ∙ omega (arith, time_left_bytes_length now e) in
       part_left named (repeated (answer_size γ - length named) 0) (entry_size + at) n
-      (omega (arith, length_append (entry_bytes e) rest, entry_bytes_length e))
+      (omega (arith, length-append (entry_bytes e) rest, entry_bytes_length e))
       ∙ ap (λ (i : ℕ). part named (i + at) n) (sym (entry_bytes_length e))
       ∙ part_right (entry_bytes e) rest at n
 

@@ -5,7 +5,7 @@ use Prim.Native.Nat.{ℕ, ◌+◌, ◌≤◌}
 use native.Mathlib.Omega.{arith}
 use borrow.Author.Tests.{ltb-true}
 use lib.Dec.{lit<}
-use lib.ListN.{length, length_append}
+use lib.ListN.{length, length-append}
 use Rattle.octets.specs.Part.{AreBytes}
 use Rattle.octets.specs.Number.{bytes}
 use Rattle.octets.proofs.BelowLaw.{below_none, below_cons, below_append}
@@ -151,8 +151,8 @@ module _ {γ : Geometry} (σ : Proper γ) where
       let rest : List ℕ = time_left_bytes now e ++ (state_number (state now e) ∷ []) in
       omega (
         arith,
-        length_append (entry_bytes e) rest,
-        length_append (time_left_bytes now e) (state_number (state now e) ∷ []),
+        length-append (entry_bytes e) rest,
+        length-append (time_left_bytes now e) (state_number (state now e) ∷ []),
         entry_bytes_length e,
         time_left_bytes_length now e,
       )
@@ -177,7 +177,7 @@ module _ {γ : Geometry} (σ : Proper γ) where
       let g = groups γ s.memory in
       omega (
         arith,
-        length_append (bytes identify_size g) (bytes identify_size (data_blocks γ g)),
+        length-append (bytes identify_size g) (bytes identify_size (data_blocks γ g)),
         bytes_length identify_size g,
         bytes_length identify_size (data_blocks γ g),
       )

@@ -10,7 +10,7 @@ use Prim.Native.Nat.{ℕ, zero, suc, ◌+◌, ◌-◌, ◌*◌, ◌≤◌, ◌<�
 use native.Mathlib.Omega.{arith}
 use borrow.Author.Tests.{eqb-true}
 use lib.Dec.{eqb, lit<}
-use lib.ListN.{length, take, drop, length_append, length-drop, take-append-drop}
+use lib.ListN.{length, take, drop, length-append, length-drop, take-append-drop}
 use lib.Seq.{drop-drop}
 use Rattle.octets.specs.Part.{AreBytes, part}
 use Rattle.octets.proofs.BelowLaw.{below_none, below_cons, below_append}
@@ -217,7 +217,7 @@ module _ {γ : Geometry} (σ : Proper γ) (s : Box) (now : ℕ) where
   unfolding shown_states flat_map
   shown_states_length [] = refl
   shown_states_length (a ∷ bs) =
-      length_append (of a) (flat_map of bs) ∙ omega (arith, shown_state_length now (current_entry γ s a), shown_states_length bs)
+      length-append (of a) (flat_map of bs) ∙ omega (arith, shown_state_length now (current_entry γ s a), shown_states_length bs)
 
   pub shown_states_are : (bs : List ℕ) → AreBytes (shown_states γ s now bs)
   unfolding shown_states flat_map

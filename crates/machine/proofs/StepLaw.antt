@@ -7,7 +7,7 @@ use Prim.Native.Nat.{ℕ, ◌-◌, ◌≤◌}
 use native.Mathlib.Omega.{arith}
 use borrow.Author.Tests.{eq-eqb, ne_eqb}
 use lib.Dec.{lit<}
-use lib.ListN.{length, length_append}
+use lib.ListN.{length, length-append}
 use Rattle.octets.specs.Part.{AreBytes, repeated}
 use Rattle.octets.proofs.BelowLaw.{below_append}
 use Rattle.octets.proofs.RepeatedLaw.{repeated_length, repeated_below}
@@ -94,7 +94,7 @@ module _ {γ : Geometry} (σ : Proper γ) where
   pub padded_length : (named : List ℕ) → length named ≤ answer_size γ → length (padded γ named) ≡ answer_size γ
   unfolding padded
   padded_length named l =
-      length_append named (repeated (answer_size γ - length named) 0) ∙ omega (arith, repeated_length (answer_size γ - length named) 0)
+      length-append named (repeated (answer_size γ - length named) 0) ∙ omega (arith, repeated_length (answer_size γ - length named) 0)
 
   -- what fills the buffer is not padded
   pub padded_full : (named : List ℕ) → length named ≡ answer_size γ → padded γ named ≡ named

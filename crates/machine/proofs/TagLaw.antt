@@ -6,7 +6,7 @@ use Prim.Native.Nat.{ℕ, ◌+◌, ◌^◌, ◌<◌}
 use native.Mathlib.Omega.{arith}
 use borrow.Author.Tests.{eqb-true, eq-eqb, ne_eqb}
 use lib.Dec.{eqb}
-use lib.ListN.{length, length_append}
+use lib.ListN.{length, length-append}
 use Rattle.octets.specs.Part.{AreBytes, part}
 use Rattle.octets.specs.Number.{number, bytes}
 use Rattle.octets.proofs.BelowLaw.{below_append, below_part}
@@ -41,7 +41,7 @@ module _ {γ : Geometry} (σ : Proper γ) where
 
   pub tagged_length : (m : List ℕ) (g : ℕ) (p : List ℕ) → length p ≡ page_size γ → length (tagged γ m g p) ≡ proof_size γ
   unfolding tagged
-  tagged_length m g p l = length_append p (tag γ m g p) ∙ omega (arith, tag_length m g p)
+  tagged_length m g p l = length-append p (tag γ m g p) ∙ omega (arith, tag_length m g p)
 
   pub tagged_are : (m : List ℕ) (g : ℕ) (p : List ℕ) → AreBytes p → AreBytes (tagged γ m g p)
   unfolding tagged
@@ -117,14 +117,14 @@ module _ {γ : Geometry} (σ : Proper γ) where
   message_length m g p l =
       let n : List ℕ = bytes count_size (count m g) in
       let b : List ℕ = bytes group_number_size g in
-      length_append (serial γ m) (salt m ++ (b ++ (n ++ p)))
+      length-append (serial γ m) (salt m ++ (b ++ (n ++ p)))
       ∙ omega (
         arith,
         serial_length σ m l,
         salt_length σ m l,
-        length_append (salt m) (b ++ (n ++ p)),
-        length_append b (n ++ p),
-        length_append n p,
+        length-append (salt m) (b ++ (n ++ p)),
+        length-append b (n ++ p),
+        length-append n p,
         bytes_length group_number_size g,
         bytes_length count_size (count m g),
       )

@@ -5,7 +5,7 @@ use mathlib.Core.List.{List, ◌++◌, append_assoc}
 use Prim.Native.Nat.{ℕ, ◌+◌, ◌-◌, ◌≤◌}
 use native.Mathlib.Nat.{zero-add}
 use native.Mathlib.Omega.{arith}
-use lib.ListN.{length, length_append}
+use lib.ListN.{length, length-append}
 use Rattle.octets.specs.Part.{part, replaced, repeated}
 use Rattle.octets.specs.Number.{number, number_at}
 use Rattle.octets.proofs.PartLaw.{part_length, part_all, part_add, part_left, part_right, part_first, part_second}
@@ -94,7 +94,7 @@ module _ {γ : Geometry} (σ : Proper γ) {n : ℕ} {z : List ℕ} (ω : Upgrade
     pub migrated_length : length (migrated γ n z m) ≡ memory_size (widened γ n)
     migrated_length =
         ap length migrated_cut
-        ∙ length_append (front m) (new_counts ++ (back m ++ z))
+        ∙ length-append (front m) (new_counts ++ (back m ++ z))
         ∙ omega (
           arith,
           ω.wider.more,
@@ -102,8 +102,8 @@ module _ {γ : Geometry} (σ : Proper γ) {n : ℕ} {z : List ℕ} (ω : Upgrade
           front_length,
           back_length,
           repeated_length new_size 0,
-          length_append new_counts (back m ++ z),
-          length_append (back m) z,
+          length-append new_counts (back m ++ z),
+          length-append (back m) z,
         )
 
     -- ---- what is read
@@ -162,7 +162,7 @@ module _ {γ : Geometry} (σ : Proper γ) {n : ℕ} {z : List ℕ} (ω : Upgrade
       → migrated γ n z (p ++ (x ++ y)) ≡ p ++ (new_counts ++ (x ++ z))
   migrated_pieces p x y lp lx ly =
       let m : List ℕ = p ++ (x ++ y) in
-      let size : length m ≡ memory_size γ = length_append p (x ++ y) ∙ omega (arith, length_append x y) in
+      let size : length m ≡ memory_size γ = length-append p (x ++ y) ∙ omega (arith, length-append x y) in
       let second : back m ≡ x =
       ap (λ (k : ℕ). part m k rest) (omega arith)
       ∙ part_right p (x ++ y) 0 rest

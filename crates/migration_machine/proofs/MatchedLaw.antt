@@ -5,7 +5,7 @@ use mathlib.Core.Bool.{Bool, true, false, true≢false}
 use mathlib.Core.List.{List, [], ◌∷◌, ◌++◌}
 use Prim.Native.Nat.{ℕ}
 use native.Mathlib.Omega.{arith}
-use lib.ListN.{length, length_append, get_or}
+use lib.ListN.{length, length-append, get_or}
 use Rattle.octets.specs.Part.{equal, repeated}
 use Rattle.octets.proofs.EqualLaw.{equal_true, equal_yes}
 use Rattle.octets.proofs.PartLaw.{part_first, part_second}
@@ -70,7 +70,7 @@ module _ {γ : Geometry} (σ : Proper γ) {n : ℕ} (ω : Wider γ n) where
         go false = chosen_length (equal (repeated tag_size 0) x)
 
     long : length (p ++ tag_of x b) ≡ proof_size γ
-    long = length_append p (tag_of x b) ∙ omega (arith, lp, tag_size_lem)
+    long = length-append p (tag_of x b) ∙ omega (arith, lp, tag_size_lem)
 
     has_page : brought_page γ (p ++ tag_of x b) ≡ p
     unfolding brought_page

@@ -6,7 +6,7 @@ use native.Mathlib.Nat.{sub-zero, suc-sub-suc}
 use native.Mathlib.Omega.{arith}
 use lib.ListN.{length, take, drop, get_or, length-take, length-drop}
 use lib.Seq.{take-append-le, drop-append-le, drop-append-add, take_at, drop_at, take_all, take-take, drop-drop, take-add, length-take-le, get_or-take}
-use lib.Seq.{get_or-drop, take-nil, drop_nil}
+use lib.Seq.{get_or-drop, take-nil, drop-nil}
 use Rattle.octets.specs.Part.{part}
 
 pub part_length : (l : List ℕ) (at n : ℕ) → at + n ≤ length l → length (part l at n) ≡ n
@@ -26,8 +26,8 @@ pub drop_take : (f k : ℕ) (l : List ℕ) → drop f (take k l) ≡ take (k - f
 drop_take zero k l = ap (λ (n : ℕ). take n l) (sym (sub-zero k))
 drop_take (suc f) zero l =
     let none : 0 - suc f ≡ 0 = omega arith in
-    drop_nil (suc f) ∙ ap (λ (n : ℕ). take n (drop (suc f) l)) (sym none)
-drop_take (suc f) (suc k) [] = drop_nil (suc f) ∙ sym (take-nil (suc k - suc f))
+    drop-nil (suc f) ∙ ap (λ (n : ℕ). take n (drop (suc f) l)) (sym none)
+drop_take (suc f) (suc k) [] = drop-nil (suc f) ∙ sym (take-nil (suc k - suc f))
 drop_take (suc f) (suc k) (x ∷ l) = drop_take f k l ∙ ap (λ (n : ℕ). take n (drop f l)) (sym (suc-sub-suc k f))
 
 -- the length of a part that may run past the end

@@ -7,7 +7,7 @@ use Prim.Native.Nat.{ℕ, ◌+◌, ◌-◌, ◌*◌, ◌≤◌, ◌<◌}
 use native.Mathlib.Nat.{add_assoc, add-zero, zero-add, mul-le-mul_left}
 use native.Mathlib.Numerals.{add-one}
 use native.Mathlib.Omega.{arith}
-use lib.ListN.{length, take, drop, get_or, set, length_append, length-set, length-drop, take-append-drop, drop_of_length-le}
+use lib.ListN.{length, take, drop, get_or, set, length-append, length-set, length-drop, take-append-drop, drop_of_length-le}
 use lib.Seq.{take_at, drop_at, take-append-le, drop-append-le, take-append-add, drop-append-add, drop-drop, length-take-le, take-length, sets, sets-eq, paste}
 use lib.Seq.{paste-zero, paste-suc}
 use Rattle.octets.specs.Part.{part, replaced}
@@ -16,7 +16,7 @@ use Rattle.octets.proofs.PartLaw.{part_left, part_length, part_part, part_all}
 
 pub replaced_length : (l : List ℕ) (at : ℕ) (new : List ℕ) → at + length new ≤ length l → length (replaced l at new) ≡ length l
 unfolding replaced
-replaced_length l at new h = simp (length_append, length-drop) (omega (arith, length-take-le at l (omega arith)))
+replaced_length l at new h = simp (length-append, length-drop) (omega (arith, length-take-le at l (omega arith)))
 
 -- ---- what is read after a store
 
@@ -43,7 +43,7 @@ unfolding part replaced
 part_after l at new f n h k =
     let e : ℕ = at + length new in
     let front : List ℕ = take at l ++ new in
-    let size : length front ≡ e = length_append (take at l) new ∙ ap (λ (x : ℕ). x + length new) (length-take-le at l (omega arith)) in
+    let size : length front ≡ e = length-append (take at l) new ∙ ap (λ (x : ℕ). x + length new) (length-take-le at l (omega arith)) in
     let split : e + (f - e) ≡ f = omega arith in
     ap (take n)
     (sym (ap (drop f) (append_assoc (take at l) new (drop e l)))
@@ -108,8 +108,8 @@ unfolding replaced
 replaced_append l at p q h =
     let r : List ℕ = drop (at + length p) l in
     let front : List ℕ = take at l ++ p in
-    let size : length front ≡ at + length p = length_append (take at l) p ∙ omega (arith, length-take-le at l (omega arith)) in
-    let ends : at + length p + (0 + length q) ≡ at + length (p ++ q) = omega (arith, length_append p q) in
+    let size : length front ≡ at + length p = length-append (take at l) p ∙ omega (arith, length-take-le at l (omega arith)) in
+    let ends : at + length p + (0 + length q) ≡ at + length (p ++ q) = omega (arith, length-append p q) in
     ap (λ (x : List ℕ). replaced x (at + length p) q) (sym (append_assoc (take at l) p r))
     ∙ ap (λ (n : ℕ). replaced (front ++ r) n q) (sym (add-zero (at + length p)) ∙ ap (λ (n : ℕ). n + 0) (sym size))
     ∙ replaced_front front r 0 q

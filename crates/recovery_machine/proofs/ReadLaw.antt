@@ -6,7 +6,7 @@ use mathlib.Core.List.{List, [], ◌∷◌, ◌++◌, append_assoc, append-nil}
 use Prim.Native.Nat.{ℕ, zero, suc, ◌+◌, ◌-◌, ◌*◌, ◌^◌, ◌≤◌, ◌<◌}
 use native.Mathlib.Nat.{add-zero}
 use native.Mathlib.Omega.{arith}
-use lib.ListN.{length, length_append}
+use lib.ListN.{length, length-append}
 use Rattle.octets.specs.Part.{part, repeated}
 use Rattle.octets.specs.Number.{number, bytes, number_at}
 use Rattle.octets.proofs.PartLaw.{part_left, part_right}
@@ -59,7 +59,7 @@ records_read_lem front back (x ∷ xs) k e small =
     ap₂ (λ (y : Record) (ys : List Record). y ∷ ys)
     (ap (λ (l : List ℕ). read l k) split ∙ record_read front more x (record_size * k) e small.0)
     (ap (λ (l : List ℕ). listed (read l) (suc k) (length xs)) split-on
-    ∙ records_read_lem (front ++ record_bytes x) back xs (suc k) (length_append front (record_bytes x) ∙ omega (arith, record_length x)) small.1)
+    ∙ records_read_lem (front ++ record_bytes x) back xs (suc k) (length-append front (record_bytes x) ∙ omega (arith, record_length x)) small.1)
 
 -- ---- those not used
 

@@ -3,7 +3,7 @@ use mathlib.Core.Path.{◌≡◌, ap, ap₂, ◌∙◌}
 use mathlib.Core.List.{List, [], ◌∷◌, ◌++◌, append_assoc}
 use Prim.Native.Nat.{ℕ, ◌+◌, ◌*◌, ◌≤◌, ◌<◌}
 use native.Mathlib.Omega.{arith}
-use lib.ListN.{length, set, length_append}
+use lib.ListN.{length, set, length-append}
 use lib.IntN.{ℤ}
 use mir.Syntax.{w64}
 use mir.Val.{SFits, of_z, to_z}
@@ -26,7 +26,7 @@ behind : (l : List ℕ) (at : ℕ) (text m : List ℕ) (here : ℕ) (new r : Lis
     → here + length new ≤ length l → Printed m here new r end → Printed l at (text ++ new) r end
 behind l at text m here new r end p h q = (
   q.0 ∙ ap₂ (λ (x : List ℕ) (k : ℕ). replaced x k new) p.0 p.1 ∙ replaced_append l at text new (omega (arith, p.1)),
-  omega (arith, p.1, q.1, length_append text new),
+  omega (arith, p.1, q.1, length-append text new),
 )
 
 -- a byte behind it

@@ -8,7 +8,7 @@ use Prim.Native.Nat.{ℕ, suc, ◌+◌, ◌-◌, ◌*◌, ◌≤◌, ◌<◌}
 use native.Mathlib.Omega.{arith}
 use borrow.Author.Tests.{leb-true, le-leb}
 use lib.Dec.{leb}
-use lib.ListN.{length, get_or, length_append}
+use lib.ListN.{length, get_or, length-append}
 use lib.Seq.{get_or-append_seam}
 use Rattle.octets.specs.Part.{equal}
 use Rattle.octets.proofs.EqualLaw.{equal_true, equal_yes}
@@ -64,7 +64,7 @@ other_no x b u n =
     (λ v.
     let here : get_or (decimal (spelled (x ++ (b ∷ u)))) (length x) 0 ≡ b =
     ap (λ (f : List ℕ). get_or f (length x) 0) (sym v.same) ∙ get_or-append_seam x b u 0 in
-    let is = decimal_digits (spelled (x ++ (b ∷ u))) (length x) (omega (arith, ap length v.same, length_append x (b ∷ u))) in
+    let is = decimal_digits (spelled (x ++ (b ∷ u))) (length x) (omega (arith, ap length v.same, length-append x (b ∷ u))) in
     n (omega arith) (omega arith))
 
 -- a number above the limit

@@ -7,7 +7,7 @@ use native.Mathlib.Nat.{zero-add}
 use native.Mathlib.Numerals.{add-one}
 use native.Mathlib.Omega.{arith}
 use borrow.Author.Tests.{le-leb, lt-leb}
-use lib.ListN.{length, drop, get_or, length_append, drop_of_length-le}
+use lib.ListN.{length, drop, get_or, length-append, drop_of_length-le}
 use lib.Seq.{drop-cons}
 use Rattle.octets.specs.Part.{replaced}
 use Rattle.octets.proofs.ReplacedLaw.{replaced_none, replaced_length, replaced_next}
@@ -87,7 +87,7 @@ module _ (r : Reader) (s : Box) (piece out : List ℕ) where
               printed = f.printed ++ step.printed;
               stands = replaced_next out now f.printed step.printed now' p.end f.stands f.end
                   (omega (arith, f.inside, behind, w.1, below)) (ap (λ (x : Placed). x.out) w.0);
-              end = behind ∙ omega (arith, f.end, length_append f.printed step.printed);
+              end = behind ∙ omega (arith, f.end, length-append f.printed step.printed);
               rest = f.rest ∙ ap (prefixed f.printed) goes_on
                   ∙ ap (printing last.reader last.box) (sym (append_assoc f.printed step.printed last.printed));
               within = omega (arith, below);

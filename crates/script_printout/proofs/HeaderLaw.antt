@@ -8,7 +8,7 @@ use native.Mathlib.Numerals.{add-one}
 use native.Mathlib.Omega.{arith}
 use borrow.Author.Tests.{eqb-true, eqb-false, ltb-true, ltb-false, not-true}
 use lib.Dec.{eqb, ltb}
-use lib.ListN.{length, take, get_or, length_append}
+use lib.ListN.{length, take, get_or, length-append}
 use lib.Seq.{take-suc, take-length, length-take-le, get_or_at}
 use Rattle.octets.proofs.EqualLaw.{equal_yes, equal_no}
 use Rattle.machine.specs.Command.{Box}
@@ -66,7 +66,7 @@ module _ (k : ℕ) (h : k ≤ length header) where
   other : (b : ℕ) (rest : List ℕ) → (k < length header → get_or header k 0 ≡ b → ⊥) → take k header ++ (b ∷ rest) ≡ header → ⊥
   other b rest n e =
       let size = length-take-le k header h in
-      n (omega (arith, ap length e, length_append (take k header) (b ∷ rest), size))
+      n (omega (arith, ap length e, length-append (take k header) (b ∷ rest), size))
       (ap (λ (l : List ℕ). get_or l k 0) (sym e) ∙ get_or_at (take k header) b rest 0 k size)
 
 -- ---- its end

@@ -7,7 +7,7 @@ use Prim.Native.Nat.{ℕ, ◌+◌, ◌≤◌, ◌<◌}
 use native.Mathlib.Omega.{arith}
 use borrow.Author.Tests.{lt-ltb, le-ltb}
 use lib.Dec.{eqb, ltb}
-use lib.ListN.{length, get_or, set, length_append}
+use lib.ListN.{length, get_or, set, length-append}
 use Rattle.octets.specs.Part.{part, replaced}
 use Rattle.octets.proofs.ReplacedLaw.{replaced_length, replaced_append, replaced_sets, all_copied}
 use Rattle.decimal.specs.Decimal.{decimal}
@@ -32,7 +32,7 @@ bad_length_lem = refl
 
 pub bad_line_length : (n : ℕ) → length (bad_line n) ≡ 9 + length (decimal n) + 1
 unfolding bad_line
-bad_line_length n = omega (arith, bad_length_lem, length_append bad (decimal n ++ (newline ∷ [])), length_append (decimal n) (newline ∷ []))
+bad_line_length n = omega (arith, bad_length_lem, length-append bad (decimal n ++ (newline ∷ [])), length-append (decimal n) (newline ∷ []))
 
 -- each fits where a line is printed
 pub heading_size : length heading ≤ most_printed
@@ -69,7 +69,7 @@ bad_line_put l at n k m end h e f =
     let size : length (bad_line n) ≡ 9 + length (decimal n) + 1 = bad_line_length n in
     let nine : length bad ≡ 9 = bad_length_lem in
     let text : List ℕ = bad ++ decimal n in
-    let long : length text ≡ 9 + length (decimal n) = length_append bad (decimal n) ∙ ap (λ (x : ℕ). x + length (decimal n)) nine in
+    let long : length text ≡ 9 + length (decimal n) = length-append bad (decimal n) ∙ ap (λ (x : ℕ). x + length (decimal n)) nine in
     let before : m ≡ replaced l at text =
     f.0
     ∙ ap₂ (λ (x : List ℕ) (p : ℕ). replaced x (at + p) (decimal n)) (all_copied l bad k at 9 nine e) (sym nine)

@@ -3,7 +3,7 @@ use mathlib.Core.Path.{◌≡◌, ap, sym, ◌∙◌}
 use mathlib.Core.List.{List, ◌++◌, append_assoc}
 use Prim.Native.Nat.{ℕ, ◌+◌}
 use native.Mathlib.Omega.{arith}
-use lib.ListN.{length, length_append}
+use lib.ListN.{length, length-append}
 use Rattle.octets.specs.Part.{part, replaced}
 use Rattle.octets.specs.Number.{bytes, with_number}
 use Rattle.octets.proofs.PartLaw.{part_all}
@@ -46,9 +46,9 @@ module _ {γ : Geometry} (σ : Proper γ) where
       let ls : length s ≡ salt_size = salt_length σ m lm in
       let lx : length x ≡ group_number_size = bytes_length group_number_size g in
       let ly : length y ≡ count_size = bytes_length count_size (count m g) in
-      let lzs : length (z ++ s) ≡ group_at = length_append z s ∙ omega arith in
-      let lzsx : length ((z ++ s) ++ x) ≡ count_at = length_append (z ++ s) x ∙ omega arith in
-      let lzsxy : length (((z ++ s) ++ x) ++ y) ≡ page_at = length_append ((z ++ s) ++ x) y ∙ omega arith in
+      let lzs : length (z ++ s) ≡ group_at = length-append z s ∙ omega arith in
+      let lzsx : length ((z ++ s) ++ x) ≡ count_at = length-append (z ++ s) x ∙ omega arith in
+      let lzsxy : length (((z ++ s) ++ x) ++ y) ≡ page_at = length-append ((z ++ s) ++ x) y ∙ omega arith in
       let second : b ≡ replaced out 0 (z ++ s) = replaced_next out a z s b salt_at ea (sym lz) (omega arith) eb in
       let third : c ≡ replaced out 0 ((z ++ s) ++ x) = replaced_next out b (z ++ s) x c group_at second (sym lzs) (omega arith) ec in
       let fourth : d ≡ replaced out 0 (((z ++ s) ++ x) ++ y) =
@@ -58,7 +58,7 @@ module _ {γ : Geometry} (σ : Proper γ) where
       replaced_next out d (((z ++ s) ++ x) ++ y) page r page_at fourth (sym lzsxy) (omega arith)
       (er ∙ ap (replaced d page_at) (part_all page (page_size γ) (omega arith))) in
       last
-      ∙ replaced_all out ((((z ++ s) ++ x) ++ y) ++ page) (length_append (((z ++ s) ++ x) ++ y) page ∙ omega arith)
+      ∙ replaced_all out ((((z ++ s) ++ x) ++ y) ++ page) (length-append (((z ++ s) ++ x) ++ y) page ∙ omega arith)
       ∙ append_assoc ((z ++ s) ++ x) y page
       ∙ append_assoc (z ++ s) x (y ++ page)
       ∙ append_assoc z s (x ++ (y ++ page))

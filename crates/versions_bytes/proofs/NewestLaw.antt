@@ -5,7 +5,7 @@ use mathlib.Core.Option.{Option, none}
 use Prim.Native.Nat.{ℕ, zero, suc, ◌+◌, ◌-◌, ◌*◌, ◌≤◌, ◌<◌}
 use native.Mathlib.Nat.{add-zero}
 use native.Mathlib.Omega.{arith}
-use lib.ListN.{length, length_append}
+use lib.ListN.{length, length-append}
 use Rattle.octets.specs.Part.{repeated}
 use Rattle.octets.specs.Number.{bytes}
 use Rattle.octets.proofs.NumberLaw.{bytes_length}
@@ -25,7 +25,7 @@ pub newests_length : (newest : ℕ → Option ℕ) (from n : ℕ) → length (ne
 unfolding newest_bytes
 newests_length newest from zero = refl
 newests_length newest from (suc n) =
-    length_append (block_bytes (newest from)) (newest_bytes newest (from + 1) n)
+    length-append (block_bytes (newest from)) (newest_bytes newest (from + 1) n)
     ∙ omega (arith, bytes_length field_size (block_number (newest from)), newests_length newest (from + 1) n)
 
 newests_split : (newest : ℕ → Option ℕ) (from a b n : ℕ) → n ≡ a + suc b

@@ -3,7 +3,7 @@ use mathlib.Core.Path.{◌≡◌, refl, ap, ap₂, sym, ◌∙◌}
 use mathlib.Core.List.{List, [], ◌++◌, append_assoc, append-nil}
 use Prim.Native.Nat.{ℕ, ◌+◌, ◌^◌, ◌<◌}
 use native.Mathlib.Omega.{arith}
-use lib.ListN.{length, take, drop, length_append}
+use lib.ListN.{length, take, drop, length-append}
 use lib.Seq.{take_at, drop_at}
 use Rattle.octets.specs.Part.{part, replaced}
 use Rattle.octets.specs.Number.{number, bytes, number_at, with_number}
@@ -33,7 +33,7 @@ behind x n e p =
     record {
       front = x ++ p.front;
       back = p.back;
-      size = length_append x p.front ∙ omega (arith, p.size);
+      size = length-append x p.front ∙ omega (arith, p.size);
       is = λ m. ap (λ (l : List ℕ). x ++ l) (p.is m) ∙ sym (append_assoc x p.front (m ++ p.back));
     }
 

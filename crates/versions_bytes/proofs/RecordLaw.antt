@@ -5,7 +5,7 @@ use mathlib.Core.List.{List, [], ◌∷◌, ◌++◌, append_assoc, append-nil}
 use Prim.Native.Nat.{ℕ, ◌+◌, ◌-◌, ◌*◌, ◌≤◌, ◌<◌}
 use native.Mathlib.Nat.{sub-zero}
 use native.Mathlib.Omega.{arith}
-use lib.ListN.{length, length_append}
+use lib.ListN.{length, length-append}
 use Rattle.octets.specs.Part.{repeated}
 use Rattle.octets.proofs.RepeatedLaw.{repeated_length, repeated_add}
 use Rattle.lockpage.specs.Geometry.{Geometry}
@@ -27,7 +27,7 @@ module _ (γ : Geometry) where
   unfolding records_area
   area_length xs h =
       let left = record_size * (most_records γ - length xs) in
-      length_append (records_bytes xs) (repeated left unused) ∙ omega (arith, records_length xs, repeated_length left unused)
+      length-append (records_bytes xs) (repeated left unused) ∙ omega (arith, records_length xs, repeated_length left unused)
 
   -- none
   pub area_none : repeated (record_size * most_records γ) unused ≡ records_area γ []
@@ -52,5 +52,5 @@ module _ (γ : Geometry) where
     pub area_more : (x : Record) → records_area γ (xs ++ (x ∷ [])) ≡ next (record_bytes x)
     unfolding records_area
     area_more x =
-        ap₂ (λ (l : List ℕ) (k : ℕ). l ++ repeated (record_size * (most_records γ - k)) unused) (records_append xs x) (length_append xs (x ∷ []))
+        ap₂ (λ (l : List ℕ) (k : ℕ). l ++ repeated (record_size * (most_records γ - k)) unused) (records_append xs x) (length-append xs (x ∷ []))
         ∙ append_assoc (records_bytes xs) (record_bytes x) _

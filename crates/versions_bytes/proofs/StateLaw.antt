@@ -3,7 +3,7 @@ use mathlib.Core.Path.{◌≡◌, refl, ap, ap₂, sym, ◌∙◌}
 use mathlib.Core.List.{List, [], ◌∷◌, ◌++◌}
 use Prim.Native.Nat.{ℕ, ◌+◌, ◌*◌, ◌≤◌, ◌<◌}
 use native.Mathlib.Omega.{arith}
-use lib.ListN.{length, length_append}
+use lib.ListN.{length, length-append}
 use Rattle.octets.specs.Part.{replaced, repeated}
 use Rattle.octets.specs.Number.{bytes, with_number}
 use Rattle.octets.proofs.RepeatedLaw.{repeated_length}
@@ -76,7 +76,7 @@ module _ (γ : Geometry) (ν : Versions) where
   unfolding state_bytes
   state_length few =
       let count = length ν.records in
-      simp length_append
+      simp length-append
       (omega (
         arith,
         bytes_length field_size ν.lock,
@@ -135,7 +135,7 @@ module _ (γ : Geometry) (ν : Versions) where
       ∙ place_stored (area_place ν.lock ν.reserve ν.taken (length xs) newests_of (newests_length ν.newest 0 parts) (next_place γ xs))
       (repeated record_size unused) (record_bytes x) (repeated_length record_size unused ∙ sym (record_length x)))
       ∙ place_set (count_place ν.lock ν.reserve ν.taken (length xs) newests_of (next γ xs (record_bytes x))) field_size (length xs) (n + 1)
-      ∙ ap₂ put (ap (λ (k : ℕ). k + 1) en ∙ sym (length_append xs (x ∷ []))) (sym (area_more γ xs x))
+      ∙ ap₂ put (ap (λ (k : ℕ). k + 1) en ∙ sym (length-append xs (x ∷ []))) (sym (area_more γ xs x))
 
 -- a record, stored in two
 pub record_stored : (l : List ℕ) (at p block : ℕ) → at + record_size ≤ length l

@@ -4,7 +4,7 @@ use mathlib.Core.Bool.{true}
 use mathlib.Core.List.{List, [], ◌∷◌, ◌++◌, append_assoc, append-nil}
 use Prim.Native.Nat.{ℕ, ◌+◌, ◌-◌, ◌*◌, ◌<◌}
 use native.Mathlib.Omega.{arith}
-use lib.ListN.{length, length_append}
+use lib.ListN.{length, length-append}
 use Rattle.octets.specs.Part.{AreBytes, part, replaced, repeated}
 use Rattle.octets.specs.Number.{bytes, with_number}
 use Rattle.octets.proofs.RepeatedLaw.{repeated_length, repeated_add}
@@ -43,7 +43,7 @@ module _ (γ : Geometry) where
     unfolding records_area log_block repeated
     full_block x pointer h =
         let none : record_size * (most_records γ - length xs) ≡ 0 = omega arith in
-        let none_more : record_size * (records_per_block γ - length (xs ++ (x ∷ []))) ≡ 0 = omega (arith, length_append xs (x ∷ [])) in
+        let none_more : record_size * (records_per_block γ - length (xs ++ (x ∷ []))) ≡ 0 = omega (arith, length-append xs (x ∷ [])) in
         ap (λ (l : List ℕ). (l ++ record_bytes x) ++ bytes pointer_size pointer)
         (ap (λ (k : ℕ). records_bytes xs ++ repeated k unused) none ∙ append-nil (records_bytes xs))
         ∙ ap (λ (l : List ℕ). l ++ bytes pointer_size pointer) (sym (records_append xs x))
@@ -75,13 +75,13 @@ module _ (γ : Geometry) where
         let f = facts γ state v in
         let front = area_length γ (versions_in state).records (few_read γ state are v) in
         let digits = bytes_length pointer_size pointer in
-        let both : length (area ++ item) ≡ record_size * most_records γ + record_size = length_append area item ∙ omega arith in
+        let both : length (area ++ item) ≡ record_size * most_records γ + record_size = length-append area item ∙ omega arith in
         let first = ea ∙ ap (replaced out 0) area_read in
         let second = replaced_next out a area item b (record_size * most_records γ) first (sym front) (omega (arith, f.few)) eb in
         replaced_next out b (area ++ item) (bytes pointer_size pointer) r (record_size * most_records γ + record_size) second (sym both)
         (omega (arith, f.few)) er
         ∙ replaced_all out ((area ++ item) ++ bytes pointer_size pointer)
-        (length_append (area ++ item) (bytes pointer_size pointer) ∙ omega (arith, f.few))
+        (length-append (area ++ item) (bytes pointer_size pointer) ∙ omega (arith, f.few))
 
     pub log_filled : (b r : List ℕ) (pointer : ℕ) → b ≡ replaced a (record_size * most_records γ) (repeated record_size unused)
         → r ≡ with_number b (record_size * most_records γ + record_size) pointer_size pointer → r ≡ log_block γ (versions_in state).records pointer

@@ -13,7 +13,7 @@ use Rattle.versions_machine.proofs.HoldsLaw.{write_free}
 use Prim.Native.Nat.{ℕ, ◌+◌, ◌<◌}
 use native.Mathlib.Omega.{arith}
 use borrow.Author.Tests.{eq-eqb, eqb-true, eqb-false, ne_eqb}
-use lib.ListN.{length, length_append}
+use lib.ListN.{length, length-append}
 use Rattle.lockpage.specs.Geometry.{Geometry, Proper}
 use Rattle.addressing.specs.Map.{disk_size, data_blocks}
 use Rattle.memory.specs.Memory.{last_time, groups}
@@ -111,7 +111,7 @@ module _ {γ : Geometry} (σ : Proper γ) (ρ : Range) where
       go false e =
           let f = sound_facts σ ν h in
           let e' = entered ν part block in
-          let one : length e'.records ≡ length ν.records + 1 = length_append ν.records (record_of part block ∷ []) in
+          let one : length e'.records ≡ length ν.records + 1 = length-append ν.records (record_of part block ∷ []) in
           let n = eqb-false (length e'.records) (records_per_block γ) e in
           subst (λ (p : Plan). is_sound γ p.after ≡ true) (sym (due_none e' t now e))
           (facts_sound σ e' (record { least = f.least; most = f.most; room = omega (arith, f.room, one, n) }))

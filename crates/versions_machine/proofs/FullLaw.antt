@@ -6,7 +6,7 @@ use mathlib.Core.Option.{none}
 use Prim.Native.Nat.{ℕ, ◌+◌, ◌≤◌, ◌<◌}
 use native.Mathlib.Omega.{arith}
 use borrow.Author.Tests.{eq-eqb, le-leb}
-use lib.ListN.{length, length_append}
+use lib.ListN.{length, length-append}
 use Rattle.lockpage.specs.Geometry.{Geometry, Proper}
 use Rattle.lockpage.specs.Size.{block_size}
 use Rattle.lockpage.specs.Update.{latest_time, longest_lock}
@@ -55,7 +55,7 @@ module _ {γ : Geometry} (σ : Proper γ) where
 
     records_are : length e.records ≡ records_per_block γ
     unfolding entered
-    records_are = length_append records (record_of part 1 ∷ []) ∙ last
+    records_are = length-append records (record_of part 1 ∷ []) ∙ last
 
     full : is_full γ e ≡ true
     unfolding is_full

@@ -3,7 +3,7 @@ use mathlib.Core.Path.{◌≡◌, refl, sym, ◌∙◌}
 use mathlib.Core.List.{List, [], ◌∷◌, ◌++◌}
 use Prim.Native.Nat.{ℕ, ◌+◌, ◌*◌, ◌-◌, ◌≤◌}
 use native.Mathlib.Omega.{arith}
-use lib.ListN.{length, length_append}
+use lib.ListN.{length, length-append}
 use Rattle.octets.specs.Part.{repeated}
 use Rattle.octets.specs.Number.{bytes}
 use Rattle.octets.proofs.NumberLaw.{bytes_length}
@@ -16,14 +16,14 @@ use Rattle.versions_machine.specs.Log.{record_field, record_size, record_bytes, 
 pub record_length : (x : Record) → length (record_bytes x) ≡ record_size
 unfolding record_bytes
 record_length x =
-    length_append (bytes record_field x.part) (bytes record_field x.block)
+    length-append (bytes record_field x.part) (bytes record_field x.block)
     ∙ omega (arith, bytes_length record_field x.part, bytes_length record_field x.block)
 
 pub records_length : (xs : List Record) → length (records_bytes xs) ≡ record_size * length xs
 unfolding records_bytes
 records_length [] = refl
 records_length (x ∷ xs) =
-    length_append (record_bytes x) (records_bytes xs) ∙ omega (arith, record_length x, records_length xs)
+    length-append (record_bytes x) (records_bytes xs) ∙ omega (arith, record_length x, records_length xs)
 
 module _ (γ : Geometry) where
   log_parts : (xs : List Record) (pointer : ℕ)
@@ -32,10 +32,10 @@ module _ (γ : Geometry) where
   log_parts xs pointer =
       let rest = repeated (record_size * (records_per_block γ - length xs)) unused in
       let end = bytes pointer_size pointer in
-      length_append (records_bytes xs) (rest ++ end)
+      length-append (records_bytes xs) (rest ++ end)
       ∙ omega (
         arith,
-        length_append rest end,
+        length-append rest end,
         records_length xs,
         repeated_length (record_size * (records_per_block γ - length xs)) unused,
         bytes_length pointer_size pointer,

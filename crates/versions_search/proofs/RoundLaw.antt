@@ -5,7 +5,7 @@ use mathlib.Core.List.{List, [], ◌∷◌, ◌++◌, append-nil}
 use Prim.Native.Nat.{ℕ, zero, suc, ◌+◌, ◌-◌, ◌≤◌, ◌<◌}
 use native.Mathlib.Omega.{arith}
 use borrow.Author.Tests.{ltb-true, ltb-false, lt-ltb, le-ltb, le-leb, lt-leb}
-use lib.ListN.{length, length_append}
+use lib.ListN.{length, length-append}
 use lib.Dec.{leb, ltb}
 use Rattle.lockpage.specs.Geometry.{Geometry}
 use Rattle.addressing.specs.Map.{data_blocks}
@@ -79,7 +79,7 @@ module _ (end taken start : ℕ) (b : Behind taken end start) where
   -- how many pass a test
   passing_round : (test : ℕ → Bool) → length (those test (blocks_from 0 end)) ≡ passing test 0 start + passing test start end
   passing_round test =
-      ap length (those_round test) ∙ length_append (those test (blocks_from 0 (start - 0))) (those test (blocks_from start (end - start)))
+      ap length (those_round test) ∙ length-append (those test (blocks_from 0 (start - 0))) (those test (blocks_from start (end - start)))
 
   first_round : (test : ℕ → Bool) (ρ : Range) → ρ.first ≡ 0 → ρ.number ≡ end → first_that test (going_round ρ taken) taken
       ≡ first_that test (blocks_from start (end - start)) (first_that test (blocks_from 0 (start - 0)) taken)

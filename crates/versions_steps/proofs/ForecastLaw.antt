@@ -7,7 +7,7 @@ use Prim.Native.Nat.{ℕ, ◌+◌, ◌≤◌, ◌<◌}
 use native.Mathlib.Omega.{arith}
 use borrow.Author.Tests.{eq-eqb, ne_eqb, leb-true, le-leb}
 use lib.Dec.{eqb}
-use lib.ListN.{length, length_append}
+use lib.ListN.{length, length-append}
 use Rattle.lockpage.specs.Geometry.{Geometry, Proper}
 use Rattle.memory.specs.Memory.{count, groups}
 use Rattle.machine.specs.Command.{Box}
@@ -47,7 +47,7 @@ module _ {γ : Geometry} (σ : Proper γ) where
       let m = most_records γ in
       let k = length ((versions_in state).records ++ (record_of part block ∷ [])) in
       let more : k ≡ n + 1 =
-      length_append (versions_in state).records (record_of part block ∷ []) ∙ ap (λ (j : ℕ). j + 1) (count_read γ state) in
+      length-append (versions_in state).records (record_of part block ∷ []) ∙ ap (λ (j : ℕ). j + 1) (count_read γ state) in
       same_or_not n m (λ e. eq-eqb n m e ∙ sym (eq-eqb k (records_per_block γ) (omega (arith, more))))
       (λ d. ne_eqb n m d ∙ sym (ne_eqb k (records_per_block γ) (λ e. d (omega (arith, more)))))
 

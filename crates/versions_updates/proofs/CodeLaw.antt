@@ -4,7 +4,7 @@ use mathlib.Core.Bool.{true}
 use mathlib.Core.List.{List, [], ◌∷◌, ◌++◌, append_assoc}
 use Prim.Native.Nat.{ℕ, ◌+◌, ◌-◌, ◌*◌, ◌≤◌, ◌<◌}
 use native.Mathlib.Omega.{arith}
-use lib.ListN.{length, length_append}
+use lib.ListN.{length, length-append}
 use Rattle.octets.specs.Part.{AreBytes, replaced, repeated}
 use Rattle.octets.specs.Number.{bytes, with_number}
 use Rattle.octets.proofs.RepeatedLaw.{repeated_length, repeated_add}
@@ -92,15 +92,15 @@ module _ (γ : Geometry) where
       let four = bytes_length field_size lock in
       let more = bytes_length field_size 0 in
       let left = repeated_length (state_size γ - newests_start) unused in
-      let two : length (head ++ zero) ≡ taken_start = length_append head zero ∙ omega arith in
-      let three : length ((head ++ zero) ++ zero) ≡ record_count_start = length_append (head ++ zero) zero ∙ omega arith in
-      let numbers : length (((head ++ zero) ++ zero) ++ zero) ≡ newests_start = length_append ((head ++ zero) ++ zero) zero ∙ omega arith in
+      let two : length (head ++ zero) ≡ taken_start = length-append head zero ∙ omega arith in
+      let three : length ((head ++ zero) ++ zero) ≡ record_count_start = length-append (head ++ zero) zero ∙ omega arith in
+      let numbers : length (((head ++ zero) ++ zero) ++ zero) ≡ newests_start = length-append ((head ++ zero) ++ zero) zero ∙ omega arith in
       let second = replaced_next state a head zero b reserve_start ea (omega arith) (omega arith) eb in
       let third = replaced_next state b (head ++ zero) zero c taken_start second (sym two) (omega arith) ec in
       let fourth = replaced_next state c ((head ++ zero) ++ zero) zero d record_count_start third (sym three) (omega arith) ed in
       let areas : state_size γ - newests_start ≡ field_size * parts + record_size * most_records γ = omega arith in
       replaced_next state d (((head ++ zero) ++ zero) ++ zero) rest r newests_start fourth (sym numbers) (omega arith) er
-      ∙ replaced_all state ((((head ++ zero) ++ zero) ++ zero) ++ rest) (length_append (((head ++ zero) ++ zero) ++ zero) rest ∙ omega arith)
+      ∙ replaced_all state ((((head ++ zero) ++ zero) ++ zero) ++ rest) (length-append (((head ++ zero) ++ zero) ++ zero) rest ∙ omega arith)
       ∙ ap (λ (l : List ℕ). (((head ++ zero) ++ zero) ++ zero) ++ l)
       (ap (λ (k : ℕ). repeated k unused) areas
       ∙ repeated_add (field_size * parts) (record_size * most_records γ) unused

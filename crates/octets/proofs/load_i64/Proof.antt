@@ -8,7 +8,7 @@ use Rattle.octets.proofs.load_i64.Statement.{statement}
 use Rattle.octets.proofs.load_i64.Tie as tie
 
 returns : tie.Need-returns
-returns c = to_z-of_z w64 c.signed.result (search rules) ∙ c.signed.ensures ∙ ap signed c.before.load-u64.ensures
+returns c = to_z-of_z w64 c.signed.result (search rules) ∙ c.signed.ensures ∙ ap signed c.before.load_u64.ensures
 
-pub load-i64-spec : {M : Type 1} → statement M
-load-i64-spec = tie.close (tie.spec (λ c κs. search rules) (λ c κs. search rules) returns)
+pub load_i64_spec : {M : Type 1} → statement M
+load_i64_spec = tie.close (tie.spec (λ c κs. search rules) (λ c κs. search rules) returns)

@@ -10,10 +10,10 @@ returns c =
     let second = third.before.before in
     let first = second.before.before in
     let start = first.before.before.before in
-    number_of_four _ _ _ _ _ _ start.requires first.wide.ensures.0 second.wide2.ensures.0 third.wide3.ensures.0 c.wide4.ensures.0
+    number_of_four _ _ _ _ _ _ start.requires first.wide.ensures.0 second.wide-2.ensures.0 third.wide-3.ensures.0 c.wide-4.ensures.0
 
-pub load-u32-spec : {M : Type 1} → statement M
-load-u32-spec =
+pub load_u32_spec : {M : Type 1} → statement M
+load_u32_spec =
     tie.close
     (tie.spec (λ c. search rules) (λ c κs. search rules) (λ c. search rules) (λ c. search rules) (λ c κs. search rules)
     (λ c. search rules) (λ c. search rules) (λ c. search rules) (λ c. search rules) (λ c κs. search rules) (λ c. search rules)

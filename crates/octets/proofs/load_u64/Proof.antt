@@ -6,10 +6,10 @@ use Rattle.octets.proofs.load_u64.Tie as tie
 
 returns : tie.Need-returns
 returns c =
-    number_of_eight _ _ _ _ c.before.before.before.requires c.before.load-u32.ensures c.load-u322.ensures
+    number_of_eight _ _ _ _ c.before.before.before.requires c.before.load_u32-low.ensures c.load_u32-high.ensures
 
-pub load-u64-spec : {M : Type 1} → statement M
-load-u64-spec =
+pub load_u64_spec : {M : Type 1} → statement M
+load_u64_spec =
     tie.close
     (tie.spec (λ c κs. search rules) (λ c. search rules) (λ c κs. search rules) (λ c. search rules) (λ c. search rules)
     (λ c. search rules) (λ c. search rules) returns)

@@ -4,5 +4,5 @@ use Rattle.octets.proofs.NumberLaw.{number_of_one}
 use Rattle.octets.proofs.load_u8.Statement.{statement}
 use Rattle.octets.proofs.load_u8.Tie as tie
 
-pub load-u8-spec : {M : Type 1} → statement M
-load-u8-spec = tie.close (tie.spec (λ c. search rules) (λ c. number_of_one _ _ c.before.requires))
+pub load_u8_spec : {M : Type 1} → statement M
+load_u8_spec = tie.close (tie.spec (λ c. search rules) (λ c. number_of_one _ _ c.before.requires))

@@ -11,8 +11,8 @@ returns : tie.Need-returns
 returns c =
     let stored = c.before.before in
     let start = stored.before.before.before.before in
-    stored.store-u64.ensures ∙ ap (with_number start.args.s.now start.args.at 8)
+    stored.store_u64.ensures ∙ ap (with_number start.args.s-1.now start.args.at 8)
     (stored.before.bits.ensures ∙ ap twos (signed_twos start.args.z start.ranges.z))
 
-pub store-i64-spec : {M : Type 1} → statement M
-store-i64-spec = tie.close (tie.spec (λ c κs. search rules) (λ c κs. search rules) (λ c. search rules) returns)
+pub store_i64_spec : {M : Type 1} → statement M
+store_i64_spec = tie.close (tie.spec (λ c κs. search rules) (λ c κs. search rules) (λ c. search rules) returns)

@@ -9,8 +9,8 @@ use Rattle.octets.proofs.store_u32.Tie as tie
 returns : tie.Need-returns
 returns c = stored_four _ _ _ c.requires
 
-pub store-u32-spec : {M : Type 1} → statement M
-store-u32-spec =
+pub store_u32_spec : {M : Type 1} → statement M
+store_u32_spec =
     tie.close
     (tie.spec
     (λ c. search rules) (λ c. search rules)

@@ -8,9 +8,9 @@ returns : tie.Need-returns
 returns c =
     let second = c.before.before in
     let first = second.before.before.before.before in
-    stored_eight _ _ _ _ _ first.before.before.before.requires first.store-u32.ensures second.store-u322.ensures
+    stored_eight _ _ _ _ _ first.before.before.before.requires first.store_u32.ensures second.store_u32-2.ensures
 
-pub store-u64-spec : {M : Type 1} → statement M
-store-u64-spec =
+pub store_u64_spec : {M : Type 1} → statement M
+store_u64_spec =
     tie.close
     (tie.spec (λ c. search rules) (λ c κs. search rules) (λ c. search rules) (λ c. search rules) (λ c κs. search rules) (λ c. search rules) returns)
