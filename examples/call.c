@@ -34,11 +34,10 @@ static void print_states(uint32_t now) {
 }
 
 int main(void) {
-    const uint8_t salt[SOCKJADE_SALT_SIZE] = {0};     /* from the box's own generator, in earnest */
-    const uint8_t serial[SOCKJADE_SERIAL_SIZE] = {1}; /* from the box's plate: no other box has it */
+    const uint8_t salt[SOCKJADE_SALT_SIZE] = {0}; /* from the box's own generator, in earnest */
     uint8_t block[SOCKJADE_BLOCK_SIZE];
     memset(block, 'a', sizeof block);
-    printf("format %u\n", (unsigned)sockjade_format(memory, sizeof memory, disk, sizeof disk, 1, salt, sizeof salt, serial, sizeof serial));
+    printf("format %u\n", (unsigned)sockjade_format(memory, sizeof memory, disk, sizeof disk, 1, salt, sizeof salt));
     printf("page %u\n", command(SOCKJADE_PAGE, 1000, 0, block, 0));
     printf("write, lock 500 %u\n", command(SOCKJADE_WRITE, 1000, 500, block, sizeof block));
     printf("write again %u\n", command(SOCKJADE_WRITE, 1001, 500, block, sizeof block));

@@ -70,10 +70,9 @@ static void print_state(uint32_t block, uint32_t now) {
 }
 
 int main(void) {
-    const uint8_t salt[SOCKJADE_SALT_SIZE] = {0};     /* from the box's own generator, in earnest */
-    const uint8_t serial[SOCKJADE_SERIAL_SIZE] = {1}; /* from the box's plate: no other box has it */
+    const uint8_t salt[SOCKJADE_SALT_SIZE] = {0}; /* from the box's own generator, in earnest */
     int right = 1;
-    print_number("format", sockjade_format(memory, sizeof memory, disk, sizeof disk, 1, salt, sizeof salt, serial, sizeof serial));
+    print_number("format", sockjade_format(memory, sizeof memory, disk, sizeof disk, 1, salt, sizeof salt));
     print_number("start, lock of a day", sockjade_versions_start(versions, sizeof versions, DAY));
     for (uint32_t part = 0; part < PARTS; part++)
         right &= put_part(part, 1000, (char)('a' + part)) == SOCKJADE_ACCEPTED;

@@ -2,8 +2,7 @@
  * file, and stores its content in a new folder: part-000 to part-255, and parts.txt, a line for each with its block and time of write.
  *
  * FILE is the box's, as examples/service keeps it: the memory, then the disk of 1 to 64 groups. It is only read, so a copy serves, and
- * the box may go on; what the tool asks the controller, it asks on what it has read. The memory of an old box's file is migrated there,
- * with a serial of zeros: a serial is for tags, and no command of the tool has one.
+ * the box may go on; what the tool asks the controller, it asks on what it has read. The memory of an old box's file is migrated there.
  *
  * X is a time up to which the office trusts what was stored, and at which it had flushed and synced.
  *
@@ -65,7 +64,6 @@ static int has_groups(size_t len, size_t memory_len) {
 }
 
 static void load(const char *path) {
-    const uint8_t serial[SOCKJADE_SERIAL_SIZE] = {0};
     FILE *file = fopen(path, "rb");
     if (file == NULL)
         fail(path);
@@ -76,7 +74,7 @@ static void load(const char *path) {
     if (len > LARGEST || !(old || has_groups(len, SOCKJADE_MEMORY_SIZE)))
         complain(path, "not of the size of a box");
     if (old)
-        accept(path, sockjade_migrate(box, SOCKJADE_OLD_MEMORY_SIZE, serial, sizeof serial, memory, sizeof memory));
+        accept(path, sockjade_migrate(box, SOCKJADE_OLD_MEMORY_SIZE, memory, sizeof memory));
     else
         memcpy(memory, box, sizeof memory);
     size_t memory_len = old ? SOCKJADE_OLD_MEMORY_SIZE : SOCKJADE_MEMORY_SIZE;

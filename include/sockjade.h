@@ -14,8 +14,6 @@
  * - Restart and new salt, kinds 8 and 9, are given by the box alone. A server's request for one is refused before the controller
  *   is called: a restart gives up the held page, and with it each lock that is not yet on the disk.
  * - A new salt is from the box's own generator, and no salt comes twice.
- * - The serial is the box's own, and no other box has it. A server that has copies of the pages of several boxes may then cross them: the page
- *   of one box with its tag gets 7 in another, even where salt and counts are the same.
  * - Memory and disk as an accepted command or list leaves them, and a version store's state with them, are stored, whole, before its
  *   answer leaves the box.
  * - Nobody else writes them.
@@ -25,19 +23,14 @@
  * one group. examples/service/ is a model.
  *
  * The memory's bytes: 0 salt; 32 a freshness count of 4 bytes for each of 64 groups; 288 last time; 292 groups; 293 the held group, or
- * 255 for none; 294 the updates to the held page, 1 to SOCKJADE_MOST_UPDATES, or 0 for none; 295 zero; 296 the held page; 808 the serial, any
- * SOCKJADE_SERIAL_SIZE bytes, which no command changes.
- *
- * A tag is the BLAKE3 digest of 572 bytes: serial, salt, group in 8 bytes, count in 4 bytes, page.
+ * 255 for none; 294 the updates to the held page, 1 to SOCKJADE_MOST_UPDATES, or 0 for none; 295 zero; 296 the held page.
  *
  * A box from before 64 groups (document 02, Q-7) has an old memory, with counts for 16 groups alone: 96 last time; 100 groups, 1 to 16;
- * 101 the held group; 102 the updates; 103 zero; 104 the held page; SOCKJADE_OLD_MEMORY_SIZE bytes. It has no serial, and its tags are of the
- * 556 bytes behind one (document 02, Q-8). Its disk is as it was.
+ * 101 the held group; 102 the updates; 103 zero; 104 the held page; SOCKJADE_OLD_MEMORY_SIZE bytes. Its disk is as it was.
  *
- * An operator's step: an old memory is migrated once, by sockjade_migrate, with the serial that the box is to have, before the first command
- * of this library. The new memory and the disk are stored, whole, and the old memory is not used again: started or migrated again, it would
- * bring old counts back, and tags given out under them would be right again. The tags that the old box gave get 7 from the migration on, so
- * a server gets each page anew, by SOCKJADE_PAGE. A memory of 808 bytes, of this library between Q-7 and Q-8, has no migration.
+ * An operator's step: an old memory is migrated once, by sockjade_migrate, before the first command of this library. The new memory and
+ * the disk are stored, whole, and the old memory is not used again. Were it started again after the new one has run, old counts would
+ * be back, and old tags would be right again.
  *
  * Another, of boxes that are older still: an old memory from before byte 102 counted (document 02, Q-4) has 0 there, and with a page held
  * the migration refuses it by SOCKJADE_MEMORY_INVALID. Such a box is first synced, by SOCKJADE_SYNC, by its old service; with no page held
@@ -56,16 +49,16 @@ extern "C" {
 /* The numbers answered. */
 enum {
     SOCKJADE_ACCEPTED = 0,
-    SOCKJADE_MEMORY_INVALID = 1,       /* the memory is not 824 bytes, or not valid; a version store's state is not 1,536 bytes, or not
+    SOCKJADE_MEMORY_INVALID = 1,       /* the memory is not 808 bytes, or not valid; a version store's state is not 1,536 bytes, or not
                                         * valid; when formatting, the groups are not 1 to 64; of a migration, the old memory is not
-                                        * 616 bytes, or not valid, or the new one's buffer is not 824 bytes */
+                                        * 616 bytes, or not valid, or the new one's buffer is not 808 bytes */
     SOCKJADE_DISK_SIZE_WRONG = 2,      /* the disk is not groups * 33,280 bytes */
     SOCKJADE_KIND_UNKNOWN = 3,         /* the kind is not 1 to 10 */
     SOCKJADE_TIME_OUT_OF_RANGE = 4,    /* now is before the last time, or above 2,147,483,647 */
     SOCKJADE_ADDRESS_OUT_OF_RANGE = 5, /* no such data block, alone or in a list; for a page, no such group */
-    SOCKJADE_LENGTH_WRONG = 6,         /* data, proof or answer is not of the kind's or the list's length; when formatting, the salt or the
-                                        * serial; of a migration, the serial; of a recovery, the result */
-    SOCKJADE_TAG_WRONG = 7,            /* the tag is not that of the page brought, under the box's serial, the present salt and count */
+    SOCKJADE_LENGTH_WRONG = 6,         /* data, proof or answer is not of the kind's or the list's length; when formatting, the salt; of a
+                                        * recovery, the result */
+    SOCKJADE_TAG_WRONG = 7,            /* the tag is not that of the page brought, under the present salt and count */
     SOCKJADE_COUNT_EXHAUSTED = 8,      /* the group's count is exhausted, until a new salt */
     SOCKJADE_STATE_WRONG = 9,          /* write: not free; unfreeze: not frozen; increment: free */
     SOCKJADE_LIMIT_EXCEEDED = 10,      /* a lock above 2,147,483,647, an expiry above 4,294,967,295; at a version store's start, lock 0 */
@@ -98,7 +91,7 @@ enum {
 
 /* Sizes in bytes, and how many there are of something. Numbers of several bytes are little-endian. */
 enum {
-    SOCKJADE_MEMORY_SIZE = 824,
+    SOCKJADE_MEMORY_SIZE = 808,
     SOCKJADE_OLD_MEMORY_SIZE = 616,    /* of a box from before 64 groups */
     SOCKJADE_GROUP_SIZE = 33280,       /* on the disk, for each group */
     SOCKJADE_BLOCK_SIZE = 512,
@@ -107,7 +100,6 @@ enum {
     SOCKJADE_PROOF_SIZE = 544,         /* a page, then its tag */
     SOCKJADE_ANSWER_SIZE = 544,
     SOCKJADE_SALT_SIZE = 32,
-    SOCKJADE_SERIAL_SIZE = 16,
     SOCKJADE_DIGEST_SIZE = 32,
     SOCKJADE_LONGEST_INPUT = 65536,    /* of a digest */
     SOCKJADE_NUMBER_SIZE = 4,          /* of a block number in a list */
@@ -192,19 +184,17 @@ uint64_t sockjade_versions_block(const uint8_t *state, size_t state_len, uint32_
 uint32_t sockjade_recover(const uint8_t *memory, size_t memory_len, const uint8_t *disk, size_t disk_len, uint32_t point, uint32_t now,
                           uint8_t *result, size_t result_len);
 
-/* Formats a box of `groups` groups: fills the memory, with the salt and the serial, and makes every data block free by storing each group's
- * blank page. It touches no data block. Answers SOCKJADE_ACCEPTED, or 1, 2 or 6, asked in this order; 6 where the salt is not
- * SOCKJADE_SALT_SIZE bytes or the serial not SOCKJADE_SERIAL_SIZE. */
+/* Formats a box of `groups` groups: fills the memory, and makes every data block free by storing each group's blank page.
+ * It touches no data block. Answers SOCKJADE_ACCEPTED, or 1, 2 or 6. */
 uint32_t sockjade_format(uint8_t *memory, size_t memory_len, uint8_t *disk, size_t disk_len, uint32_t groups,
-                         const uint8_t *salt, size_t salt_len, const uint8_t *serial, size_t serial_len);
+                         const uint8_t *salt, size_t salt_len);
 
 /* Migrates the memory of an old box, of 1 to 16 groups: fills `memory` with the memory that goes on in its place. It has every field of the
- * old one, a held page and its updates too, counts of 0 for the groups that an old box cannot have, and the serial. The old memory and the
- * disk stay as they are, and so does a version store's state. Each later command then answers as it would have before, but for the tags,
- * which have the serial in front: one that brings the new message's tag where it brought the old one's is accepted or refused as that was,
- * and a lock lasts as long. Answers SOCKJADE_ACCEPTED; or, asked in this order, 1 where the old memory is not SOCKJADE_OLD_MEMORY_SIZE bytes or
- * not valid as an old box's, or `memory` is not SOCKJADE_MEMORY_SIZE bytes, and 6 where the serial is not SOCKJADE_SERIAL_SIZE bytes. */
-uint32_t sockjade_migrate(const uint8_t *old, size_t old_len, const uint8_t *serial, size_t serial_len, uint8_t *memory, size_t memory_len);
+ * old one, a held page and its updates too, and counts of 0 for the groups that an old box cannot have. The old memory and the disk stay
+ * as they are, and so does a version store's state. Each later command then answers as it would have before: tags that were right are
+ * right, and a lock lasts as long. Answers SOCKJADE_ACCEPTED; or 1 where the old memory is not SOCKJADE_OLD_MEMORY_SIZE bytes or not valid
+ * as an old box's, or `memory` is not SOCKJADE_MEMORY_SIZE bytes. */
+uint32_t sockjade_migrate(const uint8_t *old, size_t old_len, uint8_t *memory, size_t memory_len);
 
 /* The BLAKE3 digest of the input. Answers SOCKJADE_ACCEPTED with the digest in out, or 6 where the input is longer than
  * SOCKJADE_LONGEST_INPUT or out_len is not SOCKJADE_DIGEST_SIZE. */

@@ -10,6 +10,8 @@
 #include <unistd.h>
 #include "box.h"
 
+enum { LONGEST_PATH = 4096 };
+
 static _Noreturn void fail(const char *what) {
     perror(what);
     exit(EXIT_FAILURE);
@@ -17,7 +19,8 @@ static _Noreturn void fail(const char *what) {
 
 /* ---- The file ---- */
 
-void suffixed_path(char path[LONGEST_PATH], const struct box *box, const char *suffix) {
+/* The path of the box's file, with a suffix. */
+static void suffixed_path(char path[LONGEST_PATH], const struct box *box, const char *suffix) {
     int len = snprintf(path, LONGEST_PATH, "%s%s", box->path, suffix);
     if (len >= 0 && len < LONGEST_PATH)
         return;
@@ -77,7 +80,7 @@ static uint32_t load(struct box *box) {
         return SOCKJADE_ACCEPTED;
     }
     read_file(file, box, old, sizeof old);
-    return sockjade_migrate(old, sizeof old, (const uint8_t *)box->serial, strlen(box->serial), box->memory, sizeof box->memory);
+    return sockjade_migrate(old, sizeof old, box->memory, sizeof box->memory);
 }
 
 /* Any trouble but that there is no file ends the service, so that a box is never formatted over. */
@@ -151,8 +154,7 @@ static void generate(uint8_t salt[SOCKJADE_SALT_SIZE]) {
 uint32_t format_box(struct box *box) {
     uint8_t salt[SOCKJADE_SALT_SIZE];
     generate(salt);
-    uint32_t number = sockjade_format(box->memory, sizeof box->memory, box->disk, sizeof box->disk, GROUPS, salt, sizeof salt,
-                                      (const uint8_t *)box->serial, strlen(box->serial));
+    uint32_t number = sockjade_format(box->memory, sizeof box->memory, box->disk, sizeof box->disk, GROUPS, salt, sizeof salt);
     if (number == SOCKJADE_ACCEPTED)
         store(box);
     return number;

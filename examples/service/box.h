@@ -10,13 +10,12 @@
 
 #include "sockjade.h"
 
-enum { GROUPS = 2, LONGEST_PATH = 4096 };
+enum { GROUPS = 2 };
 
 struct box {
-    const char *path;   /* the file: the memory, then the disk */
-    const char *serial; /* on the box's plate, SOCKJADE_SERIAL_SIZE letters: no other box has it */
-    int old;            /* not 0: the file that was loaded is an old box's, from before 64 groups and serials */
-    uint32_t clock;     /* the box's own, in seconds; simulated here */
+    const char *path; /* the file: the memory, then the disk */
+    int old;          /* not 0: the file that was loaded is an old box's, from before 64 groups */
+    uint32_t clock;   /* the box's own, in seconds; simulated here */
     uint8_t memory[SOCKJADE_MEMORY_SIZE], disk[GROUPS * SOCKJADE_GROUP_SIZE];
 };
 
@@ -48,11 +47,11 @@ struct list_reply serve_list(struct box *box, const uint8_t *blocks, size_t bloc
 
 /* What the box does by itself; each answers the controller's number. */
 
-/* Formats a box that has no file. Its memory has the plate's serial from then on. */
+/* Formats a box that has no file. */
 uint32_t format_box(struct box *box);
 
-/* Loads the box and restarts it. The memory of an old box is migrated before, with the plate's serial, and both are stored at once: the file
- * is then a new box's. Where the number is not SOCKJADE_ACCEPTED, the box serves nothing, and the file is left as it is. */
+/* Loads the box and restarts it. The memory of an old box is migrated before, and both are stored at once: the file is then a new box's.
+ * Where the number is not SOCKJADE_ACCEPTED, the box serves nothing, and the file is left as it is. */
 uint32_t start_box(struct box *box);
 
 /* An orderly stop: a sync, so that the next start loses nothing. A service calls it when it is told to end. Of an old box whose library
@@ -67,8 +66,5 @@ void lock_box(const struct box *box);
 
 /* Whether the box has a file. */
 int box_exists(const struct box *box);
-
-/* The path of the box's file, with a suffix. */
-void suffixed_path(char path[LONGEST_PATH], const struct box *box, const char *suffix);
 
 #endif

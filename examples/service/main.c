@@ -1,6 +1,6 @@
 /* Plays a box and its server, which are two machines in earnest. It is run twice, as `service FILE`: the first run formats a box,
  * shows what a server can and cannot do, and stops in order; the second starts from the file, that of an old box too, and plays a power
- * cut. In the first run the server has a second box for a while, with the file FILE-2. */
+ * cut. */
 #include <inttypes.h>
 #include <stdio.h>
 #include <stdlib.h>
@@ -98,23 +98,6 @@ static void send_list(struct box *box, const char *what, const uint32_t *blocks,
 
 /* ---- What happens ---- */
 
-/* The second box is formatted as the first was, and neither has updates: their pages and counts are the same. The serials tell the boxes apart,
- * even if the salts did not. A copy that is refused changes nothing: each box's own copy is right as before. */
-static void cross_copies(struct box *box, struct server *server, struct box *second) {
-    struct server copies = {0}; /* of the second box's pages */
-    uint8_t data[SOCKJADE_BLOCK_SIZE] = {0};
-    printf("a second box on the same server: the copies of their pages get crossed\n");
-    second->clock = 1000;
-    print_line(second, "format the second box, 2 groups", format_box(second), "");
-    send_at(1000, second, &copies, "page of its group 0", SOCKJADE_PAGE, 0, 0, 0);
-    send_request(&copies, second, "write its block 0 with the first box's page", make_request(server, SOCKJADE_WRITE, 0, 500, data));
-    send_request(server, box, "write the first box's block 0 with the second's page", make_request(&copies, SOCKJADE_WRITE, 0, 500, data));
-    send_at(1000, second, &copies, "entry of its block 0", SOCKJADE_ENTRY, 0, 0, 0);
-    send_at(1000, second, &copies, "write its block 0 with its own page, lock 500", SOCKJADE_WRITE, 0, 500, 'z');
-    print_line(second, "sync, by the second box", stop_box(second), "");
-    printf("the first box with its own page\n");
-}
-
 /* A server that would overwrite a block which it wrote under a lock, while the block's page is held and not on the disk. */
 static void attack(struct box *box, struct server *server) {
     uint8_t salt[SOCKJADE_SALT_SIZE] = {0};
@@ -147,27 +130,13 @@ static void refusals(struct box *box, struct server *server, const struct server
     send_at(999, box, server, "read block 0, the clock gone back", SOCKJADE_READ, 0, 0, 0);
 }
 
-/* The second box's file. One that is there already is not formatted over. */
-static void open_second(struct box *second) {
-    lock_box(second);
-    if (!box_exists(second))
-        return;
-    fprintf(stderr, "%s: is there already\n", second->path);
-    exit(EXIT_FAILURE);
-}
-
 /* The write to block 64 is synced by the box alone, when it stops. */
 static void first_run(struct box *box, struct server *server) {
-    char second_path[LONGEST_PATH];
-    struct box second = {.path = second_path, .serial = "DEPOT-BOX-000002"};
-    suffixed_path(second_path, box, "-2");
-    open_second(&second);
     printf("first run: no file, so a box is formatted\n");
     box->clock = 1000;
     print_line(box, "format, 2 groups", format_box(box), "");
     send_at(1000, box, server, "page of group 0", SOCKJADE_PAGE, 0, 0, 0);
     send_at(1000, box, server, "page of group 1", SOCKJADE_PAGE, 1, 0, 0);
-    cross_copies(box, server, &second);
     struct server before = *server;
     send_at(1000, box, server, "write block 0, lock 500", SOCKJADE_WRITE, 0, 500, 'a');
     attack(box, server);
@@ -253,7 +222,7 @@ int main(int argc, char **argv) {
         fprintf(stderr, "usage: service FILE\n");
         return EXIT_FAILURE;
     }
-    struct box box = {.path = argv[1], .serial = "DEPOT-BOX-000001"};
+    struct box box = {.path = argv[1]};
     struct server server = {0};
     lock_box(&box);
     if (box_exists(&box))

@@ -28,8 +28,6 @@ extern "C" {
         groups: u32,
         salt: *const u8,
         salt_len: usize,
-        serial: *const u8,
-        serial_len: usize,
     ) -> u32;
 
     fn sockjade_states(
@@ -82,14 +80,7 @@ extern "C" {
         result_len: usize,
     ) -> u32;
 
-    fn sockjade_migrate(
-        old: *const u8,
-        old_len: usize,
-        serial: *const u8,
-        serial_len: usize,
-        memory: *mut u8,
-        memory_len: usize,
-    ) -> u32;
+    fn sockjade_migrate(old: *const u8, old_len: usize, memory: *mut u8, memory_len: usize) -> u32;
 }
 
 /// The archive's digest: 0 and the digest in `out`, or 6 and `out` as it was.
@@ -135,8 +126,8 @@ pub fn command(
 }
 
 /// The archive's formatting: 0, or the number of the question that said no.
-pub fn format(memory: &mut [u8], disk: &mut [u8], groups: u32, salt: &[u8], serial: &[u8]) -> u32 {
-    // SAFETY: the function has no precondition beyond four valid slices that do not overlap.
+pub fn format(memory: &mut [u8], disk: &mut [u8], groups: u32, salt: &[u8]) -> u32 {
+    // SAFETY: the function has no precondition beyond three valid slices that do not overlap.
     unsafe {
         sockjade_format(
             memory.as_mut_ptr(),
@@ -146,8 +137,6 @@ pub fn format(memory: &mut [u8], disk: &mut [u8], groups: u32, salt: &[u8], seri
             groups,
             salt.as_ptr(),
             salt.len(),
-            serial.as_ptr(),
-            serial.len(),
         )
     }
 }
@@ -241,12 +230,10 @@ pub fn recover(memory: &[u8], disk: &[u8], point: u32, now: u32, result: &mut [u
     }
 }
 
-/// The archive's migration of an old box's memory, which gets the serial: 0, or 1 or 6 and no byte is changed.
-pub fn migrate(old: &[u8], serial: &[u8], memory: &mut [u8]) -> u32 {
-    // SAFETY: the function has no precondition beyond three valid slices that do not overlap.
-    unsafe {
-        sockjade_migrate(old.as_ptr(), old.len(), serial.as_ptr(), serial.len(), memory.as_mut_ptr(), memory.len())
-    }
+/// The archive's migration of an old box's memory: 0, or 1 and no byte is changed.
+pub fn migrate(old: &[u8], memory: &mut [u8]) -> u32 {
+    // SAFETY: the function has no precondition beyond two valid slices that do not overlap.
+    unsafe { sockjade_migrate(old.as_ptr(), old.len(), memory.as_mut_ptr(), memory.len()) }
 }
 
 /// How a second number, or the question that said no, is answered: the number in the low 32 bits, the

@@ -178,20 +178,3 @@ pub fn digest(input: &[u8]) -> [u8; 32] {
     hasher.update(input);
     hasher.finalize()
 }
-
-/// The digest that b3sum prints so.
-pub const fn printed(hex: &str) -> [u8; 32] {
-    let (hex, mut digest) = (hex.as_bytes(), [0; 32]);
-    assert!(hex.len() == 64);
-    let mut at = 0;
-    while at < hex.len() {
-        let digit = match hex[at] {
-            digit @ b'0'..=b'9' => digit - b'0',
-            digit @ b'a'..=b'f' => digit - b'a' + 10,
-            _ => panic!("not a hexadecimal digit"),
-        };
-        digest[at / 2] = digest[at / 2] << 4 | digit;
-        at += 1;
-    }
-    digest
-}

@@ -19,7 +19,6 @@ pub mod report;
 pub mod room;
 pub mod runs;
 pub mod script;
-pub mod serials;
 mod server;
 pub mod situation;
 pub mod stack;

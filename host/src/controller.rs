@@ -2,7 +2,7 @@
 //! that it is lent. The questions see them only to read, so a refusal cannot change a byte. In
 //! `states` is the list of document 02's request Q-1, in `entry` the expiry of Q-2, in `change` and
 //! `memory` the page that leaves by itself, of Q-4, and in `migration` the way from an old box to a
-//! present one, of Q-7. All else is for either box: how many counts it has, and how many bytes of the serial, of Q-8, is a parameter.
+//! present one, of Q-7. All else is for either box: how many counts it has is a parameter.
 mod entry;
 mod free;
 mod memory;
@@ -15,12 +15,12 @@ mod tests;
 use entry::{Entry, Update};
 pub use free::{ask_call, is_free, Blocks};
 use memory::{Page, LAST_COUNT, LATEST, MOST_UPDATES, PAGE_SIZE};
-pub use memory::{Kind, Memory, Old, Present, MOST_COUNTS};
+pub use memory::{Memory, OLD, PRESENT};
 pub use migration::migrate;
 pub use states::states;
 use std::ops::Range;
 use tag::{tag, TAG_SIZE};
-pub use tag::{Digest, OwnDigest};
+pub use tag::{Digest, Message, OwnDigest};
 
 pub const READ: u32 = 1;
 pub const ENTRY: u32 = 2;
@@ -74,20 +74,20 @@ impl Command<'_> {
 }
 
 /// Fills the memory and the disk's pages: 0, or the number of the question that said no.
-pub fn format<K: Kind>(memory: &mut [u8], disk: &mut [u8], groups: u32, salt: &[u8], serial: &[u8]) -> u32 {
-    let Some(memory) = Memory::<K>::of_mut(memory) else {
+pub fn format<const COUNTS: usize>(memory: &mut [u8], disk: &mut [u8], groups: u32, salt: &[u8]) -> u32 {
+    let Some(memory) = Memory::<COUNTS>::of_mut(memory) else {
         return 1;
     };
-    if !Memory::<K>::groups_in_range(groups) {
+    if !Memory::<COUNTS>::groups_in_range(groups) {
         return 1;
     }
     if disk.len() != groups as usize * GROUP_SIZE {
         return 2;
     }
-    let (Ok(salt), Ok(serial)) = (salt.try_into(), serial.try_into()) else {
+    let Ok(salt) = salt.try_into() else {
         return 6;
     };
-    *memory = Memory::formatted(groups as u8, salt, serial);
+    *memory = Memory::formatted(groups as u8, salt);
     for group in disk.chunks_exact_mut(GROUP_SIZE) {
         for entry in group[GROUP_SIZE - PAGE_SIZE..].chunks_exact_mut(8) {
             entry.copy_from_slice(&Entry::blank().bytes());
@@ -97,18 +97,18 @@ pub fn format<K: Kind>(memory: &mut [u8], disk: &mut [u8], groups: u32, salt: &[
 }
 
 /// One command: 0, or the number of the first question that said no.
-pub fn command<K: Kind, D: Digest>(
+pub fn command<const COUNTS: usize, D: Digest>(
     memory: &mut [u8],
     disk: &mut [u8],
     command: &Command,
     answer: &mut [u8],
 ) -> u32 {
-    match questions::<K, D>(memory, disk, command, answer.len()) {
+    match questions::<COUNTS, D>(memory, disk, command, answer.len()) {
         Err(number) => number,
         Ok(entry) => {
-            let memory = Memory::<K>::of_mut(memory).unwrap();
+            let memory = Memory::<COUNTS>::of_mut(memory).unwrap();
             memory.set_last_time(command.now);
-            perform::<K, D>(memory, disk, command, entry, answer.try_into().unwrap());
+            perform::<COUNTS, D>(memory, disk, command, entry, answer.try_into().unwrap());
             0
         }
     }
@@ -121,7 +121,7 @@ fn ask(yes: bool, number: u32) -> Result<(), u32> {
 
 /// Questions 1 and 2, which are about the box. Inlined, as the benchmark compiles `command` in a crate of its own.
 #[inline]
-fn ask_box<'a, K: Kind>(memory: &'a [u8], disk: &[u8]) -> Result<&'a Memory<K>, u32> {
+fn ask_box<'a, const COUNTS: usize>(memory: &'a [u8], disk: &[u8]) -> Result<&'a Memory<COUNTS>, u32> {
     let memory = Memory::of(memory).ok_or(1u32)?;
     ask(memory.valid(), 1)?;
     ask(disk.len() == memory.groups() * GROUP_SIZE, 2)?;
@@ -130,18 +130,18 @@ fn ask_box<'a, K: Kind>(memory: &'a [u8], disk: &[u8]) -> Result<&'a Memory<K>, 
 
 /// Question 4.
 #[inline]
-fn ask_time<K: Kind>(memory: &Memory<K>, now: u32) -> Result<(), u32> {
+fn ask_time<const COUNTS: usize>(memory: &Memory<COUNTS>, now: u32) -> Result<(), u32> {
     ask(memory.last_time() <= now && now <= LATEST, 4)
 }
 
 /// The questions in order; for an update that passes, the entry that it stores.
-fn questions<K: Kind, D: Digest>(
+fn questions<const COUNTS: usize, D: Digest>(
     memory: &[u8],
     disk: &[u8],
     c: &Command,
     answer_len: usize,
 ) -> Result<Option<Entry>, u32> {
-    let memory = ask_box::<K>(memory, disk)?;
+    let memory = ask_box::<COUNTS>(memory, disk)?;
     let groups = memory.groups();
     ask((READ..=IDENTIFY).contains(&c.kind), 3)?;
     ask_time(memory, c.now)?;
@@ -165,26 +165,26 @@ fn questions<K: Kind, D: Digest>(
         NEW_SALT => return ask(c.data != memory.salt(), 11).map(|()| None),
         _ => return Ok(None),
     };
-    ask(c.proof[PAGE_SIZE..] == tag::<K, D>(memory, c.group(), c.page()), 7)?;
+    ask(c.proof[PAGE_SIZE..] == tag::<COUNTS, D>(memory, c.group(), c.page()), 7)?;
     ask(memory.count(c.group()) < LAST_COUNT, 8)?;
     Entry::read(c.page(), c.index()).updated(update, c.now).map(Some)
 }
 
 /// What an accepted command does; `entry` is what an update stores.
-fn perform<K: Kind, D: Digest>(
-    memory: &mut Memory<K>,
+fn perform<const COUNTS: usize, D: Digest>(
+    memory: &mut Memory<COUNTS>,
     disk: &mut [u8],
     c: &Command,
     entry: Option<Entry>,
     answer: &mut [u8; PROOF_SIZE],
 ) {
     if let Some(entry) = entry {
-        return change::<K, D>(memory, disk, c, entry, answer);
+        return change::<COUNTS, D>(memory, disk, c, entry, answer);
     }
     match c.kind {
         READ => name(answer, &disk[c.place()..][..BLOCK_SIZE]),
         ENTRY => show_entry(current_page(memory, disk, c.group()), c, answer),
-        PAGE => show_page::<K, D>(memory, disk, c.block as usize, answer),
+        PAGE => show_page::<COUNTS, D>(memory, disk, c.block as usize, answer),
         SYNC => sync(memory, disk, answer),
         RESTART => restart(memory, answer),
         NEW_SALT => {
@@ -211,7 +211,7 @@ fn page_place(group: usize) -> Range<usize> {
 }
 
 #[inline]
-fn current_page<'a, K: Kind>(memory: &'a Memory<K>, disk: &'a [u8], group: usize) -> &'a Page {
+fn current_page<'a, const COUNTS: usize>(memory: &'a Memory<COUNTS>, disk: &'a [u8], group: usize) -> &'a Page {
     if memory.held() == Some(group) {
         return memory.held_page();
     }
@@ -227,21 +227,21 @@ fn show_entry(page: &Page, c: &Command, answer: &mut [u8; PROOF_SIZE]) {
     answer[17..].fill(0);
 }
 
-fn show_page<K: Kind, D: Digest>(
-    memory: &Memory<K>,
+fn show_page<const COUNTS: usize, D: Digest>(
+    memory: &Memory<COUNTS>,
     disk: &[u8],
     group: usize,
     answer: &mut [u8; PROOF_SIZE],
 ) {
     let page = current_page(memory, disk, group);
     answer[..PAGE_SIZE].copy_from_slice(page);
-    answer[PAGE_SIZE..].copy_from_slice(&tag::<K, D>(memory, group, page));
+    answer[PAGE_SIZE..].copy_from_slice(&tag::<COUNTS, D>(memory, group, page));
 }
 
 /// An update: the held page of another group goes to the disk, a write's data are stored, and the
 /// changed page is held and answered. With its 64th update it leaves at once, as by a sync.
-fn change<K: Kind, D: Digest>(
-    memory: &mut Memory<K>,
+fn change<const COUNTS: usize, D: Digest>(
+    memory: &mut Memory<COUNTS>,
     disk: &mut [u8],
     c: &Command,
     entry: Entry,
@@ -259,26 +259,26 @@ fn change<K: Kind, D: Digest>(
     entry.store(page, c.index());
     memory.raise_count(group);
     answer[..PAGE_SIZE].copy_from_slice(memory.held_page());
-    answer[PAGE_SIZE..].copy_from_slice(&tag::<K, D>(memory, group, memory.held_page()));
+    answer[PAGE_SIZE..].copy_from_slice(&tag::<COUNTS, D>(memory, group, memory.held_page()));
     if memory.updates() > MOST_UPDATES {
         put_held(memory, disk);
     }
 }
 
 /// The held page, if any, goes to the disk and is held no more.
-fn put_held<K: Kind>(memory: &mut Memory<K>, disk: &mut [u8]) {
+fn put_held<const COUNTS: usize>(memory: &mut Memory<COUNTS>, disk: &mut [u8]) {
     if let Some(group) = memory.held() {
         disk[page_place(group)].copy_from_slice(memory.held_page());
         memory.drop_held();
     }
 }
 
-fn sync<K: Kind>(memory: &mut Memory<K>, disk: &mut [u8], answer: &mut [u8; PROOF_SIZE]) {
+fn sync<const COUNTS: usize>(memory: &mut Memory<COUNTS>, disk: &mut [u8], answer: &mut [u8; PROOF_SIZE]) {
     put_held(memory, disk);
     answer.fill(0);
 }
 
-fn restart<K: Kind>(memory: &mut Memory<K>, answer: &mut [u8; PROOF_SIZE]) {
+fn restart<const COUNTS: usize>(memory: &mut Memory<COUNTS>, answer: &mut [u8; PROOF_SIZE]) {
     if let Some(group) = memory.held() {
         memory.raise_count(group);
         memory.drop_held();
@@ -286,7 +286,7 @@ fn restart<K: Kind>(memory: &mut Memory<K>, answer: &mut [u8; PROOF_SIZE]) {
     answer.fill(0);
 }
 
-fn identify<K: Kind>(memory: &Memory<K>, answer: &mut [u8; PROOF_SIZE]) {
+fn identify<const COUNTS: usize>(memory: &Memory<COUNTS>, answer: &mut [u8; PROOF_SIZE]) {
     let groups = memory.groups() as u32;
     answer[..4].copy_from_slice(&groups.to_le_bytes());
     answer[4..8].copy_from_slice(&(GROUP_DATA * groups).to_le_bytes());

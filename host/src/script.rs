@@ -1,12 +1,12 @@
 //! The script program, written from document 01 and apart from the Rattle code: lines of four
-//! numbers drive the host's controller, with a box of one group, a zero salt and a zero serial.
-use crate::controller::{self, Command, Memory, OwnDigest, Present};
+//! numbers drive the host's controller, with a box of one group and a zero salt.
+use crate::controller::{self, Command, Memory, OwnDigest, PRESENT};
 use std::io::{self, BufRead, Write};
 
 pub const HEADER: &str = "kind block now value";
 pub const PRINTED_HEADER: &str = "kind block now answer state left";
 
-const MEMORY: usize = Memory::<Present>::SIZE;
+const MEMORY: usize = Memory::<PRESENT>::SIZE;
 const DISK: usize = 33_280;
 const ANSWER: usize = 544;
 
@@ -98,7 +98,7 @@ pub struct DepotBox {
 impl DepotBox {
     pub fn formatted() -> DepotBox {
         let (mut memory, mut disk) = ([0; MEMORY], vec![0; DISK]);
-        assert_eq!(controller::format::<Present>(&mut memory, &mut disk, 1, &[0; 32], &[0; 16]), 0);
+        assert_eq!(controller::format::<PRESENT>(&mut memory, &mut disk, 1, &[0; 32]), 0);
         DepotBox { memory, disk, data: Vec::new(), proof: [0; ANSWER], answer: [0; ANSWER] }
     }
 
@@ -111,7 +111,7 @@ impl DepotBox {
         self.fields().updates()
     }
 
-    fn fields(&self) -> &Memory<Present> {
+    fn fields(&self) -> &Memory<PRESENT> {
         Memory::of(&self.memory).expect("a memory of its size")
     }
 
@@ -131,7 +131,7 @@ impl DepotBox {
         self.data.resize(data_len, (value % 256) as u8);
         let proof: &[u8] = if update { &self.proof } else { &[] };
         let command = Command { kind, block, now, value, data: &self.data, proof };
-        let number = controller::command::<Present, OwnDigest>(&mut self.memory, &mut self.disk, &command, &mut self.answer);
+        let number = controller::command::<PRESENT, OwnDigest>(&mut self.memory, &mut self.disk, &command, &mut self.answer);
         let (state, left) = if kind == controller::ENTRY && number == 0 { self.answered_entry() } else { (0, 0) };
         Outcome { number, state, left }
     }
@@ -140,7 +140,7 @@ impl DepotBox {
     fn get_page(&mut self) {
         let (kind, now) = (controller::PAGE, self.last_time());
         let command = Command { kind, block: 0, now, value: 0, data: &[], proof: &[] };
-        let number = controller::command::<Present, OwnDigest>(&mut self.memory, &mut self.disk, &command, &mut self.proof);
+        let number = controller::command::<PRESENT, OwnDigest>(&mut self.memory, &mut self.disk, &command, &mut self.proof);
         assert_eq!(number, 0);
     }
 

@@ -6,7 +6,7 @@ mod state;
 mod tests;
 mod trial;
 
-use crate::controller::{ask_call, Digest, Kind, UNFREEZE, WRITE};
+use crate::controller::{ask_call, Digest, UNFREEZE, WRITE};
 use state::{State, LAST_PART, MOST_PENDING, RECORD_SIZE};
 use trial::Trial;
 
@@ -42,7 +42,7 @@ pub fn start(state: &mut [u8], lock: u32) -> u32 {
 }
 
 /// Stores a version of a part: its block.
-pub fn put<K: Kind, D: Digest>(
+pub fn put<const COUNTS: usize, D: Digest>(
     state: &mut [u8],
     memory: &mut [u8],
     disk: &mut [u8],
@@ -51,28 +51,28 @@ pub fn put<K: Kind, D: Digest>(
     content: &[u8],
 ) -> Result<u32, Refusal> {
     ask(part <= LAST_PART, 13)?;
-    let state = ask_state::<K>(state)?;
-    attempt::<K, _>(state, memory, disk, now, |state, trial| put_version::<K, D>(state, trial, part, content))
+    let state = ask_state::<COUNTS>(state)?;
+    attempt::<COUNTS, _>(state, memory, disk, now, |state, trial| put_version::<COUNTS, D>(state, trial, part, content))
 }
 
 /// Stores the log block with the records that there are, if any.
-pub fn flush<K: Kind, D: Digest>(
+pub fn flush<const COUNTS: usize, D: Digest>(
     state: &mut [u8],
     memory: &mut [u8],
     disk: &mut [u8],
     now: u32,
 ) -> Result<(), Refusal> {
-    let state = ask_state::<K>(state)?;
+    let state = ask_state::<COUNTS>(state)?;
     if state.pending() == 0 {
         return Ok(());
     }
-    attempt::<K, _>(state, memory, disk, now, |state, trial| store_log::<K, D>(state, trial, log_of(state.records())))
+    attempt::<COUNTS, _>(state, memory, disk, now, |state, trial| store_log::<COUNTS, D>(state, trial, log_of(state.records())))
 }
 
 /// The block of the part's newest version, or FF FF FF FF for none.
-pub fn block<K: Kind>(state: &[u8], part: u32) -> Result<u32, u32> {
+pub fn block<const COUNTS: usize>(state: &[u8], part: u32) -> Result<u32, u32> {
     ask(part <= LAST_PART, 13)?;
-    let state = State::of(state).filter(|state| state.valid::<K>()).ok_or(1u32)?;
+    let state = State::of(state).filter(|state| state.valid::<COUNTS>()).ok_or(1u32)?;
     Ok(state.newest(part).unwrap_or(u32::MAX))
 }
 
@@ -82,19 +82,19 @@ fn ask(yes: bool, number: u32) -> Result<(), u32> {
 }
 
 /// Question 1, of the state.
-fn ask_state<K: Kind>(state: &mut [u8]) -> Result<&mut State, u32> {
-    State::of_mut(state).filter(|state| state.valid::<K>()).ok_or(1)
+fn ask_state<const COUNTS: usize>(state: &mut [u8]) -> Result<&mut State, u32> {
+    State::of_mut(state).filter(|state| state.valid::<COUNTS>()).ok_or(1)
 }
 
 /// Asks 1, 2, 4 and 14, and does the work. Where it is refused, state, memory and disk are as they were.
-fn attempt<K: Kind, T>(
+fn attempt<const COUNTS: usize, T>(
     state: &mut State,
     memory: &mut [u8],
     disk: &mut [u8],
     now: u32,
-    work: impl FnOnce(&mut State, &mut Trial<K>) -> Result<T, Refusal>,
+    work: impl FnOnce(&mut State, &mut Trial<COUNTS>) -> Result<T, Refusal>,
 ) -> Result<T, Refusal> {
-    let blocks = ask_call::<K>(memory, disk, now)?;
+    let blocks = ask_call::<COUNTS>(memory, disk, now)?;
     let mut trial = Trial::new(memory, disk, blocks, now);
     ask(trial.two_free(state.reserve()), 14)?;
     let mut after = *state;
@@ -106,9 +106,9 @@ fn attempt<K: Kind, T>(
     done
 }
 
-fn put_version<K: Kind, D: Digest>(
+fn put_version<const COUNTS: usize, D: Digest>(
     state: &mut State,
-    trial: &mut Trial<K>,
+    trial: &mut Trial<COUNTS>,
     part: u32,
     content: &[u8],
 ) -> Result<u32, Refusal> {
@@ -125,14 +125,14 @@ fn put_version<K: Kind, D: Digest>(
     }
     let mut log = log_of(state.records());
     log[POINTER - RECORD_SIZE..POINTER].copy_from_slice(&record);
-    store_log::<K, D>(state, trial, log)?;
+    store_log::<COUNTS, D>(state, trial, log)?;
     Ok(block)
 }
 
 /// Stores the log block in the reserve, with a pointer to the next one.
-fn store_log<K: Kind, D: Digest>(
+fn store_log<const COUNTS: usize, D: Digest>(
     state: &mut State,
-    trial: &mut Trial<K>,
+    trial: &mut Trial<COUNTS>,
     mut log: Log,
 ) -> Result<(), Refusal> {
     let next = allocate(state, trial);
@@ -143,7 +143,7 @@ fn store_log<K: Kind, D: Digest>(
 }
 
 /// By question 14 there is one: a log block is stored behind one version, and an unfreeze takes no free block away.
-fn allocate<K: Kind>(state: &State, trial: &Trial<K>) -> u32 {
+fn allocate<const COUNTS: usize>(state: &State, trial: &Trial<COUNTS>) -> u32 {
     trial.next_free(state.last_taken(), state.reserve()).expect("a free block")
 }
 

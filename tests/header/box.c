@@ -8,19 +8,14 @@ static void fill_salt(uint8_t salt[32]) {
         salt[i] = (uint8_t)i;
 }
 
-void format_box_as(struct box *box, const char *serial) {
-    uint8_t salt[32 + ROOM] = {0}, serial_bytes[16 + ROOM] = {0};
+void format_box(struct box *box) {
+    uint8_t salt[32 + ROOM] = {0};
     memset(box, 0, sizeof *box);
     memset(box->disk, 0x78, sizeof box->disk);
     fill_salt(salt);
-    store_hex(serial_bytes, serial);
     uint32_t number = sockjade_format(box->memory, SOCKJADE_MEMORY_SIZE, box->disk, TEST_GROUPS * SOCKJADE_GROUP_SIZE, TEST_GROUPS,
-                                      salt, SOCKJADE_SALT_SIZE, serial_bytes, SOCKJADE_SERIAL_SIZE);
+                                      salt, SOCKJADE_SALT_SIZE);
     check_number("format two groups", number, SOCKJADE_ACCEPTED, 0);
-}
-
-void format_box(struct box *box) {
-    format_box_as(box, BOX_SERIAL);
 }
 
 static int is_update(uint32_t kind) {
@@ -46,11 +41,8 @@ static uint32_t run_command(struct box *box, struct command c) {
 }
 
 void accept_command(const char *what, struct box *box, struct command command) {
-    uint8_t serial[16];
-    memcpy(serial, box->memory + SERIAL, 16);
     memset(box->answer, 0xAA, sizeof box->answer);
     check_number(what, run_command(box, command), SOCKJADE_ACCEPTED, 0);
-    check_same("serial after a command", box->memory + SERIAL, serial, 16);
 }
 
 void refuse_command(const char *what, struct box *box, struct command command, uint32_t constant, uint32_t expected) {
@@ -90,12 +82,11 @@ void store_hex(uint8_t *out, const char *bytes) {
 }
 
 void make_tag(uint8_t *tag, uint32_t group, uint32_t count, const uint8_t *page) {
-    uint8_t message[572];
-    store_hex(message, BOX_SERIAL);
-    fill_salt(message + 16);
-    store_little_endian(message + 48, group, 8);
-    store_little_endian(message + 56, count, 4);
-    memcpy(message + 60, page, 512);
+    uint8_t message[556];
+    fill_salt(message);
+    store_little_endian(message + 32, group, 8);
+    store_little_endian(message + 40, count, 4);
+    memcpy(message + 44, page, 512);
     check_number("digest for a tag", sockjade_digest(message, sizeof message, tag, SOCKJADE_TAG_SIZE), SOCKJADE_ACCEPTED, 0);
 }
 

@@ -7,9 +7,9 @@
 
 enum { ROOM = 1024, TEST_GROUPS = 2 };
 
-/* The memory's bytes, after document 02, Q-7: "counts 32..287, last time 288, G 292, held 293, update count 294, zero 295, page 296..807";
- * and Q-8: "Sixteen bytes of serial, appended to the memory (824 bytes in all ..)". */
-enum { COUNTS = 32, LAST_TIME = 288, GROUP_NUMBER = 292, HELD = 293, UPDATES = 294, ZERO = 295, HELD_PAGE = 296, SERIAL = 808, MEMORY = 824 };
+/* The memory's bytes, after document 02, Q-7: "it is 808 bytes: counts 32..287, last time 288, G 292, held 293, update count 294, zero
+ * 295, page 296..807". */
+enum { COUNTS = 32, LAST_TIME = 288, GROUP_NUMBER = 292, HELD = 293, UPDATES = 294, ZERO = 295, HELD_PAGE = 296, MEMORY = 808 };
 
 /* Where the two pages lie on the disk, in bytes: the physical blocks 64 and 129. */
 enum { PAGE_0 = 64 * 512, PAGE_1 = 129 * 512 };
@@ -26,18 +26,13 @@ struct command {
     size_t memory_len, disk_len, data_len, proof_len, answer_len;
 };
 
-#define BOX_SERIAL "B0 B1 B2 B3 B4 B5 B6 B7 B8 B9 BA BB BC BD BE BF"
-
-/* Formats the box, its data blocks of bytes 78, its salt 00 01 .. 1F and its serial BOX_SERIAL. */
+/* Formats the box, its data blocks of bytes 78 and its salt 00 01 .. 1F. */
 void format_box(struct box *box);
-
-/* The same with another serial, written in hexadecimal. */
-void format_box_as(struct box *box, const char *serial);
 
 /* A command with the lengths that its kind has. */
 struct command make_command(uint32_t kind, uint32_t block, uint32_t now, uint32_t value);
 
-/* Runs the command: it is accepted, and the serial stays. The answer is of bytes AA before. */
+/* Runs the command: it is accepted. The answer is of bytes AA before. */
 void accept_command(const char *what, struct box *box, struct command command);
 
 /* Runs the command: it is refused with the number, and no byte is changed. */
@@ -58,7 +53,7 @@ void store_little_endian(uint8_t *out, uint32_t number, unsigned size);
 /* Stores the bytes that are written in hexadecimal, as many as are written. */
 void store_hex(uint8_t *out, const char *bytes);
 
-/* The tag of a page: of serial, salt, group in 8 bytes, count in 4 bytes, page. The salt is the box's first. */
+/* The tag of a page: of salt, group in 8 bytes, count in 4 bytes, page. The salt is the box's first. */
 void make_tag(uint8_t *tag, uint32_t group, uint32_t count, const uint8_t *page);
 
 /* The bytes are entries 00 00 00 00 01 00 00 00. */

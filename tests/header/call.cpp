@@ -10,7 +10,7 @@ int main() {
     result = sockjade_versions_block(input, sizeof input, SOCKJADE_LAST_PART + 1);
     if (sockjade_number(result) != SOCKJADE_PART_OUT_OF_RANGE || sockjade_second(result) == SOCKJADE_NO_BLOCK)
         return 1;
-    if (sockjade_migrate(input, sizeof input, input, sizeof input, memory, sizeof memory) != SOCKJADE_MEMORY_INVALID)
+    if (sockjade_migrate(input, sizeof input, memory, sizeof memory) != SOCKJADE_MEMORY_INVALID)
         return 1;
     return sockjade_digest(input, sizeof input, out, sizeof out) == SOCKJADE_ACCEPTED ? 0 : 1;
 }

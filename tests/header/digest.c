@@ -28,7 +28,6 @@ void test_digest(void) {
         input[i] = (uint8_t)(i % 251);
     accept_digest("digest of 0 bytes", 0, "af1349b9f5f9a1a6a0404dea36dcc9499bcb25c9adc112b7cc9a93cae41f3262");
     accept_digest("digest of 1 byte", 1, "2d3adedff11b61f14c886e35afa036736dcd87a74d27b5c1510225d0f592e213");
-    accept_digest("digest of a tag's 572 bytes", 572, "dc82b902318a88be0b70738e43ee3b4e90ab92ad751103c2a5d72458826b72e9");
     accept_digest("digest of 1,025 bytes", 1025, "d00278ae47eb27b34faecf67b4fe263f82d5412916c1ffd97c8cb7fb814b8444");
     accept_digest("digest of the longest input", SOCKJADE_LONGEST_INPUT,
                   "68d647e619a930e7b1082f74f334b0c65a315725569bdc123f0ee11881717bfe"); /* of 65,536 bytes */

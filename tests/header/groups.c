@@ -9,15 +9,13 @@ enum { GROUPS = 64, LAST_BLOCK = 4095, BLOCK_4095 = 4158 * 512, PAGE_63 = 4159 *
 static uint8_t wide_memory[MEMORY + ROOM], wide_disk[GROUPS * 33280 + ROOM], wide_state[1536];
 static uint8_t wide_data[512], wide_proof[544], wide_answer[544];
 
-/* The box of this many groups, its salt 00 01 .. 1F and its serial BOX_SERIAL, as the other tests' are. */
+/* The box of this many groups, its salt 00 01 .. 1F, as the other tests' is. */
 static void format_wide(uint32_t groups) {
-    uint8_t salt[32], serial[16];
+    uint8_t salt[32];
     for (unsigned i = 0; i < 32; i++)
         salt[i] = (uint8_t)i;
-    store_hex(serial, BOX_SERIAL);
     memset(wide_disk, 0x78, sizeof wide_disk);
-    uint32_t number = sockjade_format(wide_memory, SOCKJADE_MEMORY_SIZE, wide_disk, groups * (size_t)SOCKJADE_GROUP_SIZE, groups, salt, 32,
-                                      serial, 16);
+    uint32_t number = sockjade_format(wide_memory, SOCKJADE_MEMORY_SIZE, wide_disk, groups * (size_t)SOCKJADE_GROUP_SIZE, groups, salt, 32);
     check_number("format the largest box", number, SOCKJADE_ACCEPTED, 0);
 }
 
@@ -43,13 +41,13 @@ static void write_last_block(void) {
     accept_wide("write block 4095", SOCKJADE_WRITE, LAST_BLOCK, 1000, 500);
 }
 
-/* The tag is from b3sum: perl -e 'print pack("C*", 0xB0 .. 0xBF, 0 .. 31), pack("Q<", 63), pack("L<", 1), pack("L<L<", 0, 1) x 63,
+/* The tag is from b3sum: perl -e 'print pack("C*", 0 .. 31), pack("Q<", 63), pack("L<", 1), pack("L<L<", 0, 1) x 63,
  * pack("L<L<", 500, 2000)' | b3sum --no-names */
 static void test_last_block(void) {
     write_last_block();
     check_blank("other entries of group 63", wide_answer, 63);
     check_hex("entry of block 4095", wide_answer + 63 * 8, "F4 01 00 00 D0 07 00 00");
-    check_hex("tag of group 63", wide_answer + 512, "b6fe620ca99076b684877cc90fb878409e8eb8a85d9230230e194137a157f031");
+    check_hex("tag of group 63", wide_answer + 512, "a12325dd919756aaee1d95e2867b4ae4dbac74935114f70d59d04df4d63222e7");
     check_filled("counts of the other groups", wide_memory + COUNTS, 0, 63 * 4);
     check_hex("count of group 63 and what follows", wide_memory + COUNT_63, "01 00 00 00 E8 03 00 00 40 3F 01 00");
     check_same("held page of group 63", wide_memory + HELD_PAGE, wide_answer, 512);

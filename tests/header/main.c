@@ -16,7 +16,6 @@ int main(void) {
     test_versions();
     test_recovery();
     test_groups();
-    test_serial();
     test_migrate();
     printf("header: %u comparisons, %u failed\n", checks_made(), checks_failed());
     return checks_failed() > 0;

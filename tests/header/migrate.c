@@ -1,8 +1,7 @@
 /* The migration, after document 02, Q-7: "A separate entry turns a valid 616-byte memory into the 808-byte one (a memory not 616 bytes and
- * valid, or a room not 808 bytes, gets 1), and each later command then answers as it would have before." By Q-8 the room is of 824 bytes, the
- * serial is given too and becomes its last 16 ("another length gets 6"). Old memories are laid out by hand, after document 01: "0..31 salt;
- * 32..95 sixteen 4-byte freshness counts; 96..99 last time; 100 G; 101 held group or 255; 102, 103 zero; 104..615 held page", where byte 102
- * counts updates since Q-4. */
+ * valid, or a room not 808 bytes, gets 1), and each later command then answers as it would have before." Old memories are laid out by
+ * hand, after document 01: "0..31 salt; 32..95 sixteen 4-byte freshness counts; 96..99 last time; 100 G; 101 held group or 255; 102, 103
+ * zero; 104..615 held page", where byte 102 counts updates since Q-4. */
 #include <string.h>
 #include "box.h"
 #include "check.h"
@@ -11,11 +10,10 @@
 enum { OLD_LAST_TIME = 96, OLD_GROUPS = 100, OLD_HELD = 101, OLD_UPDATES = 102, OLD_ZERO = 103, OLD_PAGE = 104, OLD_MEMORY = 616 };
 
 struct migration {
-    size_t old_len, serial_len, memory_len;
+    size_t old_len, memory_len;
 };
 
 static uint8_t old[OLD_MEMORY + ROOM], room[MEMORY + ROOM], old_before[OLD_MEMORY + ROOM];
-static uint8_t serial[16 + ROOM]; /* C1 C2 .. D0, and going on so */
 
 /* An old memory of so many groups with no page held: salt 00 01 .. 1F, counts of bytes 81 82 .. for the groups that there are, last
  * time 2,023,406,814. Behind it are bytes AA. */
@@ -43,38 +41,26 @@ static void make_old_held(uint8_t groups, uint8_t held, uint8_t updates) {
     fill_page(old + OLD_PAGE);
 }
 
-/* The migration gets the number, and old memory and serial stay. The room is of bytes AA before. */
+/* The migration gets the number, and the old memory stays. The room is of bytes AA before. */
 static void run_migration(const char *what, struct migration m, uint32_t constant, uint32_t expected) {
     memset(room, 0xAA, sizeof room);
     memcpy(old_before, old, sizeof old);
-    for (unsigned i = 0; i < sizeof serial; i++)
-        serial[i] = (uint8_t)(0xC1 + i);
-    check_number(what, sockjade_migrate(old, m.old_len, serial, m.serial_len, room, m.memory_len), constant, expected);
+    check_number(what, sockjade_migrate(old, m.old_len, room, m.memory_len), constant, expected);
     check_same(what, old, old_before, sizeof old);
-    check_hex(what, serial, "C1 C2 C3 C4 C5 C6 C7 C8 C9 CA CB CC CD CE CF D0 D1 D2");
     check_filled("behind the room", room + MEMORY, 0xAA, ROOM);
 }
 
-/* It is accepted, and the serial is the room's end. */
 static void accept_migration(const char *what) {
-    run_migration(what, (struct migration){SOCKJADE_OLD_MEMORY_SIZE, SOCKJADE_SERIAL_SIZE, SOCKJADE_MEMORY_SIZE}, SOCKJADE_ACCEPTED, 0);
-    check_hex("serial", room + SERIAL, "C1 C2 C3 C4 C5 C6 C7 C8 C9 CA CB CC CD CE CF D0");
+    run_migration(what, (struct migration){SOCKJADE_OLD_MEMORY_SIZE, SOCKJADE_MEMORY_SIZE}, SOCKJADE_ACCEPTED, 0);
 }
 
-static void refuse_migration(const char *what, struct migration m, uint32_t constant, uint32_t expected) {
-    run_migration(what, m, constant, expected);
+static void refuse_lengths(const char *what, size_t old_len, size_t memory_len) {
+    run_migration(what, (struct migration){old_len, memory_len}, SOCKJADE_MEMORY_INVALID, 1);
     check_filled(what, room, 0xAA, MEMORY);
 }
 
-/* It gets 1, with a serial of the right length and of wrong ones. */
-static void refuse_memories(const char *what, size_t old_len, size_t memory_len) {
-    refuse_migration(what, (struct migration){old_len, 16, memory_len}, SOCKJADE_MEMORY_INVALID, 1);
-    refuse_migration(what, (struct migration){old_len, 15, memory_len}, SOCKJADE_MEMORY_INVALID, 1);
-    refuse_migration(what, (struct migration){old_len, 17, memory_len}, SOCKJADE_MEMORY_INVALID, 1);
-}
-
 static void refuse_old(const char *what) {
-    refuse_memories(what, OLD_MEMORY, MEMORY);
+    refuse_lengths(what, OLD_MEMORY, MEMORY);
 }
 
 /* All counts, a page held after 42 updates: every byte. */
@@ -123,31 +109,18 @@ static void test_limits(void) {
     check_hex("last time, groups, none held", room + LAST_TIME, "FF FF FF 7F 10 FF 00 00");
 }
 
-/* "a memory not 616 bytes .., or a room not 808 bytes, gets 1", by Q-8 of 824 */
-static void test_memory_lengths(void) {
-    static const size_t old_lens[] = {0, 615, 617, 808, 824}, memory_lens[] = {0, 616, 808, 823, 825};
+/* "a memory not 616 bytes .., or a room not 808 bytes, gets 1" */
+static void test_lengths(void) {
+    static const size_t old_lens[] = {0, 615, 617, 808}, memory_lens[] = {0, 616, 807, 809};
     make_old_held(2, 1, 1);
-    for (size_t i = 0; i < 5; i++) {
-        refuse_memories("an old memory of another length", old_lens[i], MEMORY);
-        refuse_memories("a room of another length", OLD_MEMORY, memory_lens[i]);
-        refuse_memories("both", old_lens[i], memory_lens[i]);
+    for (size_t i = 0; i < 4; i++) {
+        refuse_lengths("an old memory of another length", old_lens[i], MEMORY);
+        refuse_lengths("a room of another length", OLD_MEMORY, memory_lens[i]);
+        refuse_lengths("both", old_lens[i], memory_lens[i]);
     }
     accept_migration("the lengths that they have");
     memcpy(old, room, MEMORY);
-    refuse_memories("a memory that was migrated", MEMORY, MEMORY);
-    refuse_memories("the same without its serial", SERIAL, MEMORY);
-}
-
-/* "another length gets 6", with a page held and with none */
-static void test_serial_lengths(void) {
-    static const size_t lengths[] = {0, 1, 8, 15, 17, 31, 32, 33, 824};
-    for (size_t i = 0; i < sizeof lengths / sizeof lengths[0]; i++) {
-        struct migration m = {OLD_MEMORY, lengths[i], MEMORY};
-        make_old(1);
-        refuse_migration("a serial of another length", m, SOCKJADE_LENGTH_WRONG, 6);
-        make_old_held(16, 15, 42);
-        refuse_migration("a serial of another length, a page held", m, SOCKJADE_LENGTH_WRONG, 6);
-    }
+    refuse_lengths("a memory that was migrated", MEMORY, MEMORY);
 }
 
 /* With no page held, a byte of an old memory is changed. */
@@ -200,8 +173,7 @@ void test_migrate(void) {
     test_held();
     test_none_held();
     test_limits();
-    test_memory_lengths();
-    test_serial_lengths();
+    test_lengths();
     test_not_valid();
     test_held_not_valid();
     test_migrated();

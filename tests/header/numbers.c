@@ -27,9 +27,9 @@ static void test_memory(void) {
     struct command command = make_command(SOCKJADE_IDENTIFY, 0, 0, 0);
     format_box(&box);
     command.memory_len--;
-    refuse_command("memory of 823 bytes", &box, command, SOCKJADE_MEMORY_INVALID, 1);
+    refuse_command("memory of 807 bytes", &box, command, SOCKJADE_MEMORY_INVALID, 1);
     command.memory_len += 2;
-    refuse_command("memory of 825 bytes", &box, command, SOCKJADE_MEMORY_INVALID, 1);
+    refuse_command("memory of 809 bytes", &box, command, SOCKJADE_MEMORY_INVALID, 1);
     refuse_memory("memory of no groups", GROUP_NUMBER, 0);
     refuse_memory("memory of 65 groups", GROUP_NUMBER, 65);
     refuse_held("memory that holds group 2", 2, 1);
@@ -38,7 +38,7 @@ static void test_memory(void) {
     refuse_memory("count of group 2", COUNTS + 4 * 2, 1);
     refuse_memory("updates with none held", UPDATES, 1);
     refuse_memory("byte 295", ZERO, 1);
-    refuse_memory("last byte of a held page with none held", HELD_PAGE + 511, 1);
+    refuse_memory("last byte of a held page with none held", MEMORY - 1, 1);
 }
 
 /* "2. Is the disk G × 33,280 bytes?" */
@@ -116,7 +116,7 @@ static void test_length(void) {
     }
 }
 
-/* "7. For 4, 5, 6: is the tag that of the brought page under the present salt and count?" Another box's page is in serial.c. */
+/* "7. For 4, 5, 6: is the tag that of the brought page under the present salt and count?" */
 static void test_tag(void) {
     struct command write = make_command(SOCKJADE_WRITE, 65, 1000, 500);
     format_box(&box);

@@ -29,13 +29,12 @@ uint64_t sockjade_versions_block(const uint8_t *state, size_t state_len, uint32_
 uint32_t sockjade_recover(const uint8_t *memory, size_t memory_len, const uint8_t *disk, size_t disk_len, uint32_t point, uint32_t now,
                           uint8_t *result, size_t result_len);
 
-/* "Formatting takes G and a salt"; document 02, Q-8: "Sixteen bytes of serial .. given at formatting" */
+/* "Formatting takes G and a salt" */
 uint32_t sockjade_format(uint8_t *memory, size_t memory_len, uint8_t *disk, size_t disk_len, uint32_t groups,
-                         const uint8_t *salt, size_t salt_len, const uint8_t *serial, size_t serial_len);
+                         const uint8_t *salt, size_t salt_len);
 
-/* Document 02, Q-7: "A separate entry turns a valid 616-byte memory into the 808-byte one"; of the old one no byte is altered. Q-8: the
- * serial is given "to Q-7's entry", and its room is of 824 bytes */
-uint32_t sockjade_migrate(const uint8_t *old, size_t old_len, const uint8_t *serial, size_t serial_len, uint8_t *memory, size_t memory_len);
+/* Document 02, Q-7: "A separate entry turns a valid 616-byte memory into the 808-byte one"; of the old one no byte is altered */
+uint32_t sockjade_migrate(const uint8_t *old, size_t old_len, uint8_t *memory, size_t memory_len);
 
 /* "The digest itself takes 0 to 65,536 bytes and fills 32" */
 uint32_t sockjade_digest(const uint8_t *input, size_t input_len, uint8_t *out, size_t out_len);

@@ -113,8 +113,8 @@ static void freeze_page(uint8_t *page, uint32_t group, uint32_t more) {
 
 /* The largest box. Each block is frozen, under a lock that is its number; by group 5's page, which is held, it is 10,000 more. */
 static void freeze_largest_box(void) {
-    const uint8_t salt[32] = {0}, serial[16] = {0};
-    uint32_t number = sockjade_format(large_memory, MEMORY, large_disk, PAGES * 33280, PAGES, salt, 32, serial, 16);
+    const uint8_t salt[32] = {0};
+    uint32_t number = sockjade_format(large_memory, MEMORY, large_disk, PAGES * 33280, PAGES, salt, 32);
     check_number("format the largest box", number, SOCKJADE_ACCEPTED, 0);
     for (uint32_t group = 0; group < PAGES; group++)
         freeze_page(large_disk + (65 * group + 64) * 512, group, 0);
@@ -159,8 +159,8 @@ static void test_box(void) {
     long_memory.memory_len++;
     short_disk.disk_len--;
     long_disk.disk_len++;
-    refuse_query("a list with 823 bytes of memory", short_memory, SOCKJADE_MEMORY_INVALID, 1);
-    refuse_query("a list with 825 bytes of memory", long_memory, SOCKJADE_MEMORY_INVALID, 1);
+    refuse_query("a list with 807 bytes of memory", short_memory, SOCKJADE_MEMORY_INVALID, 1);
+    refuse_query("a list with 809 bytes of memory", long_memory, SOCKJADE_MEMORY_INVALID, 1);
     refuse_query("a list with a disk one byte short", short_disk, SOCKJADE_DISK_SIZE_WRONG, 2);
     refuse_query("a list with a disk one byte long", long_disk, SOCKJADE_DISK_SIZE_WRONG, 2);
     refuse_query("a list at 1299", make_query(3, 1299), SOCKJADE_TIME_OUT_OF_RANGE, 4);

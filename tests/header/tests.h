@@ -11,7 +11,6 @@ void test_states(void);
 void test_versions(void);
 void test_recovery(void);
 void test_groups(void);
-void test_serial(void);
 void test_migrate(void);
 
 /* Of test_migrate, in migrated.c. */

@@ -116,13 +116,12 @@ static void intrude(void) {
 }
 
 int main(int argc, char **argv) {
-    const uint8_t salt[SOCKJADE_SALT_SIZE] = {1}, serial[SOCKJADE_SERIAL_SIZE] = {2};
+    const uint8_t salt[SOCKJADE_SALT_SIZE] = {1};
     if (argc != 3)
         return EXIT_FAILURE;
     uint32_t groups = (uint32_t)strtoul(argv[2], NULL, 10);
     disk_len = groups * (size_t)SOCKJADE_GROUP_SIZE;
-    uint32_t formatted = sockjade_format(memory, sizeof memory, disk, disk_len, groups, salt, sizeof salt, serial, sizeof serial);
-    expect("format", 0, formatted, SOCKJADE_ACCEPTED);
+    expect("format", 0, sockjade_format(memory, sizeof memory, disk, disk_len, groups, salt, sizeof salt), SOCKJADE_ACCEPTED);
     expect("start", 0, sockjade_versions_start(versions, sizeof versions, DAY), SOCKJADE_ACCEPTED);
     use_office();
     intrude();

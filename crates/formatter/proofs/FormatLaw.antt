@@ -15,7 +15,6 @@ use Rattle.addressing.proofs.MapLaw.{page_block_below}
 use Rattle.disk.specs.Disk.{with_block}
 use Rattle.disk.proofs.DiskLaw.{with_block_length, block_within}
 use Rattle.memory.specs.Layout.{memory_size, salt_size}
-use Rattle.memory.specs.Memory.{Settings}
 use Rattle.machine.specs.Command.{box_of}
 use Rattle.machine.specs.Question.{Question, Put, first_no}
 use Rattle.machine.specs.Effect.{store, stored}
@@ -27,18 +26,9 @@ use Rattle.machine.proofs.EffectLaw.{stored_append}
 module _ {γ : Geometry} (σ : Proper γ) where
   -- ---- the questions
 
-  module _ (m disk : List ℕ) (f : Settings) where
-    abbrev g : ℕ
-    g = f.groups
-
-    abbrev salted : Bool
-    salted = eqb (length f.salt) salt_size
-
-    abbrev named : Bool
-    named = eqb (length f.serial) γ.serial_size
-
+  module _ (m disk : List ℕ) (g : ℕ) (salt : List ℕ) where
     abbrev asked : List Question
-    asked = format_questions γ (box_of m disk) f
+    asked = format_questions γ (box_of m disk) g salt
 
     first : Question
     first = Put 1 (leb 1 g && (leb g γ.most_groups && eqb (length m) (memory_size γ)))
@@ -47,7 +37,7 @@ module _ {γ : Geometry} (σ : Proper γ) where
     second = Put 2 (eqb (length disk) (disk_size γ g))
 
     third : Question
-    third = Put 6 (salted && named)
+    third = Put 6 (eqb (length salt) salt_size)
 
     first_no_lem : false ≡ (leb 1 g && (leb g γ.most_groups && eqb (length m) (memory_size γ))) → 1 ≡ first_no asked
     unfolding format_questions first second third
@@ -81,25 +71,13 @@ module _ {γ : Geometry} (σ : Proper γ) where
             unfolding second
             after_second = goes_on second (third ∷ []) true (sym (eq-eqb (length disk) (disk_size γ g) fits)) refl ∙ after_first
 
-            pub salt_wrong : (length f.salt ≡ salt_size → ⊥) → 6 ≡ first_no asked
+            pub salt_wrong : (length salt ≡ salt_size → ⊥) → 6 ≡ first_no asked
             unfolding third
-            salt_wrong h =
-                says_no 6 third [] false refl (ap (λ (b : Bool). b && named) (sym (ne_eqb (length f.salt) salt_size h))) refl ∙ after_second
+            salt_wrong h = says_no 6 third [] false refl (sym (ne_eqb (length salt) salt_size h)) refl ∙ after_second
 
-            module _ (salt_size_is : length f.salt ≡ salt_size) where
-              pub serial_wrong : (length f.serial ≡ γ.serial_size → ⊥) → 6 ≡ first_no asked
-              unfolding third
-              serial_wrong h =
-                  says_no 6 third [] false refl
-                  (sym (rw (eq-eqb (length f.salt) salt_size salt_size_is, ne_eqb (length f.serial) γ.serial_size h))) refl
-                  ∙ after_second
-
-              pub none_wrong : length f.serial ≡ γ.serial_size → 0 ≡ first_no asked
-              unfolding third first_no
-              none_wrong h =
-                  goes_on third [] true
-                  (sym (rw (eq-eqb (length f.salt) salt_size salt_size_is, eq-eqb (length f.serial) γ.serial_size h))) refl
-                  ∙ after_second
+            pub none_wrong : length salt ≡ salt_size → 0 ≡ first_no asked
+            unfolding third first_no
+            none_wrong h = goes_on third [] true (sym (eq-eqb (length salt) salt_size h)) refl ∙ after_second
 
   -- ---- the pages
 

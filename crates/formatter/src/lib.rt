@@ -7,13 +7,13 @@ ghost use Rattle.lockpage.specs.Geometry.{present};
 ghost use Rattle.machine.specs.Question.{first_no};
 ghost use Rattle.machine.specs.Format.{format_questions};
 ghost use Rattle.machine.specs.Format as F;
-ghost use Rattle.machine.specs.Call.{box_at, settings_at, format_outcome_at};
+ghost use Rattle.machine.specs.Call.{box_at, format_outcome_at};
 
 use memory::layout;
 
-// The number of the first question that says no, or 0: the groups and the memory's size, the disk, the salt and the serial.
-fn refusal(memory: &[u8], disk: &[u8], groups: u32, salt: &[u8], serial: &[u8]) -> u32
-    ensures { result ≡ first_no (format_questions present (box_at memory.entry disk.entry) (settings_at groups salt.entry serial.entry)) }
+// The number of the first question that says no, or 0: the groups and the memory's size, the disk, the salt.
+fn refusal(memory: &[u8], disk: &[u8], groups: u32, salt: &[u8]) -> u32
+    ensures { result ≡ first_no (format_questions present (box_at memory.entry disk.entry) groups salt.now) }
 {
     if groups < 1 {
         return machine::MEMORY_INVALID;
@@ -30,22 +30,19 @@ fn refusal(memory: &[u8], disk: &[u8], groups: u32, salt: &[u8], serial: &[u8]) 
     if salt.len() != layout::SALT_SIZE {
         return machine::LENGTH_WRONG;
     }
-    if serial.len() != layout::SERIAL_SIZE {
-        return machine::LENGTH_WRONG;
-    }
     machine::ACCEPTED
 }
 
 // Formats a box: its number; where that is not 0, no byte is changed.
-pub fn format(memory: &mut [u8], disk: &mut [u8], groups: u32, salt: &[u8], serial: &[u8]) -> u32
+pub fn format(memory: &mut [u8], disk: &mut [u8], groups: u32, salt: &[u8]) -> u32
     ensures { format_outcome_at result memory.exit disk.exit
-        ≡ F.format present (box_at memory.entry disk.entry) (settings_at groups salt.entry serial.entry) }
+        ≡ F.format present (box_at memory.entry disk.entry) groups salt.now }
 {
-    let number = refusal(memory, disk, groups, salt, serial);
+    let number = refusal(memory, disk, groups, salt);
     if number != machine::ACCEPTED {
         return number;
     }
-    memory::format(memory, groups, salt, serial);
+    memory::format(memory, groups, salt);
     blank_pages::store_blank_pages(disk, groups);
     machine::ACCEPTED
 }

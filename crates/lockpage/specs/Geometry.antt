@@ -7,8 +7,6 @@ pub record Geometry : Type 0 where
   pub entries : ℕ
   -- the most groups that a box may have, and so the counts in its memory
   pub most_groups : ℕ
-  -- the bytes of a box's serial
-  pub serial_size : ℕ
 
 -- what the laws ask of a geometry. Document 02's largest box, of 4,096-byte blocks and 64 groups, has it
 pub record Proper (γ : Geometry) : Type 0 where
@@ -18,16 +16,14 @@ pub record Proper (γ : Geometry) : Type 0 where
   pub few_entries : γ.entries ≤ 512
   -- a group's number is a byte, and not 255
   pub few_groups : γ.most_groups ≤ 64
-  -- again for the tag's message
-  pub short_serial : γ.serial_size ≤ 16
 
--- document 01's box: "A page has 64 entries"; "A box has G groups, 1 to 16"; it has no serial
+-- document 01's box: "A page has 64 entries"; "A box has G groups, 1 to 16"
 abbrev pub base : Geometry
-base = record { entries = 64; most_groups = 16; serial_size = 0 }
+base = record { entries = 64; most_groups = 16 }
 
--- γ with n groups at most, and with a serial. Document 02, Q-8: "Sixteen bytes of serial"
+-- γ with n groups at most
 abbrev pub widened : Geometry → ℕ → Geometry
-widened γ n = record { entries = γ.entries; most_groups = n; serial_size = 16 }
+widened γ n = record { entries = γ.entries; most_groups = n }
 
 -- the box that the code runs. Document 02, Q-7: "G may be 1 to 64. The memory has 64 counts"
 abbrev pub present : Geometry

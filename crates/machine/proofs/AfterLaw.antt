@@ -8,7 +8,7 @@ use Rattle.lockpage.specs.Geometry.{Geometry, Proper}
 use Rattle.lockpage.specs.declared.Update.{Update}
 use Rattle.addressing.specs.Map.{group_of, physical, page_block}
 use Rattle.disk.specs.Disk.{block}
-use Rattle.memory.specs.Memory.{salt, count, last_time, groups, held, none, update_count, serial}
+use Rattle.memory.specs.Memory.{salt, count, last_time, groups, held, none, update_count}
 use Rattle.memory.proofs.FieldLaw.{page_dropped}
 use Rattle.validity.proofs.ValidLaw.{Valid}
 use Rattle.machine.specs.declared.Kind.{Kind}
@@ -27,13 +27,13 @@ use Rattle.machine.proofs.TagLaw.{current_other}
 use Rattle.machine.proofs.PassedLaw.{new_salt_other, Passed, Changes, passed, in_time, changes, passed_timed, changed_group, accepted_changes}
 use Rattle.machine.proofs.PassedLaw.{timed_reads}
 use Rattle.machine.proofs.EffectLaw.{left, count_changed, untouched, count_unchanged, restarted_none, restarted_held_reads, restarted_salt}
-use Rattle.machine.proofs.EffectLaw.{restarted_time, restarted_groups, restarted_serial, restarted_drops, salted_reads, restarted_updates}
+use Rattle.machine.proofs.EffectLaw.{restarted_time, restarted_groups, restarted_drops, salted_reads, restarted_updates}
 use Rattle.machine.proofs.ChangeLaw.{change_on_disk, not_none, put_current, put_elsewhere, change_reads, change_page, change_content}
 use Rattle.machine.proofs.TimedLaw.{in_memory, salt_timed, counts_timed, held_timed, page_timed, leaves_timed, updates_timed}
 
 -- γ is the box's geometry
 module _ (γ : Geometry) where
-  -- the last time, the number of groups and the serial stay (the last time is set before), the salt, the counts the held group and its updates are as claimed
+  -- the last time and the number of groups stay (the last time is set before), the salt, the counts the held group and its updates are as claimed
   record Fields (k : Kind) (s : Box) (c : Command) (m : List ℕ) : Type 0 where
     time : last_time γ m ≡ last_time γ s.memory
     same_groups : groups γ m ≡ groups γ s.memory
@@ -41,7 +41,6 @@ module _ (γ : Geometry) where
     counts : (g : ℕ) → g < groups γ s.memory → count m g ≡ count_after γ k s.memory c g
     held_group : held γ m ≡ held_after γ k s.memory c
     updates : update_count γ m ≡ updates_after γ k s.memory c
-    same_serial : serial γ m ≡ serial γ s.memory
 
 -- γ is any proper geometry
 module _ {γ : Geometry} (σ : Proper γ) where
@@ -63,15 +62,14 @@ module _ {γ : Geometry} (σ : Proper γ) where
             (λ n. (restarted_held_reads σ m v n).count g (in_memory σ m v g h));
         held_group = restarted_drops σ m v;
         updates = restarted_updates σ m v;
-        same_serial = restarted_serial σ m v;
       }
 
   effect_fields : (k : Kind) (s : Box) (c : Command) → Passed γ k s c → ((u : Update) → k ≡ Change u → Changes γ u s c)
       → Fields γ k s c (effect γ k s c).memory
   unfolding effect read show_entry show_page change sync restart new_salt identify
-  effect_fields Read s c q x = record { time = refl; same_groups = refl; new_salt_is = refl; counts = λ g h. refl; held_group = refl; updates = refl; same_serial = refl }
-  effect_fields Entry s c q x = record { time = refl; same_groups = refl; new_salt_is = refl; counts = λ g h. refl; held_group = refl; updates = refl; same_serial = refl }
-  effect_fields Page s c q x = record { time = refl; same_groups = refl; new_salt_is = refl; counts = λ g h. refl; held_group = refl; updates = refl; same_serial = refl }
+  effect_fields Read s c q x = record { time = refl; same_groups = refl; new_salt_is = refl; counts = λ g h. refl; held_group = refl; updates = refl }
+  effect_fields Entry s c q x = record { time = refl; same_groups = refl; new_salt_is = refl; counts = λ g h. refl; held_group = refl; updates = refl }
+  effect_fields Page s c q x = record { time = refl; same_groups = refl; new_salt_is = refl; counts = λ g h. refl; held_group = refl; updates = refl }
   effect_fields (Change u) s c q x =
       let r = change_reads σ u s c q (x u refl) in
       record {
@@ -81,7 +79,6 @@ module _ {γ : Geometry} (σ : Proper γ) where
         counts = λ g h. r.count g (in_memory σ s.memory q.memory g h);
         held_group = r.held;
         updates = r.updates;
-        same_serial = r.serial;
       }
   effect_fields Sync s c q x =
       let r = page_dropped σ s.memory q.memory.size in
@@ -92,7 +89,6 @@ module _ {γ : Geometry} (σ : Proper γ) where
         counts = λ g h. r.count g (in_memory σ s.memory q.memory g h);
         held_group = r.held;
         updates = r.updates;
-        same_serial = r.serial;
       }
   effect_fields Restart s c q x = restart_fields s c q.memory
   effect_fields NewSalt s c q x =
@@ -104,10 +100,9 @@ module _ {γ : Geometry} (σ : Proper γ) where
         counts = λ g h. r.count g (in_memory σ s.memory q.memory g h);
         held_group = r.held;
         updates = r.updates;
-        same_serial = r.serial;
       }
-  effect_fields Identify s c q x = record { time = refl; same_groups = refl; new_salt_is = refl; counts = λ g h. refl; held_group = refl; updates = refl; same_serial = refl }
-  effect_fields Unknown s c q x = record { time = refl; same_groups = refl; new_salt_is = refl; counts = λ g h. refl; held_group = refl; updates = refl; same_serial = refl }
+  effect_fields Identify s c q x = record { time = refl; same_groups = refl; new_salt_is = refl; counts = λ g h. refl; held_group = refl; updates = refl }
+  effect_fields Unknown s c q x = record { time = refl; same_groups = refl; new_salt_is = refl; counts = λ g h. refl; held_group = refl; updates = refl }
 
   -- with none held after, the page is the one on the disk
   none_after : (s t : Box) (g : ℕ) → Valid γ s.memory → g < groups γ s.memory → held γ t.memory ≡ none
@@ -171,7 +166,6 @@ module _ {γ : Geometry} (σ : Proper γ) where
             λ g h. ap (λ (o : Outcome). count o.box.memory g) same ∙ fields.counts g (of_box g h) ∙ counts_timed σ k s c q own g h;
         held_group = ap (λ (o : Outcome). held γ o.box.memory) same ∙ fields.held_group ∙ held_timed σ k s c q;
         updates = ap (λ (o : Outcome). update_count γ o.box.memory) same ∙ fields.updates ∙ updates_timed σ k s c q;
-        same_serial = ap (λ (o : Outcome). serial γ o.box.memory) same ∙ fields.same_serial ∙ reads.serial;
         page =
             λ g h. ap (λ (o : Outcome). current_page γ o.box g) same ∙ effect_page k t c qt x g (of_box g h) ∙ page_timed σ k s c q g;
         content = λ a. ap (λ (o : Outcome). block γ o.box.disk (physical γ a)) same ∙ effect_content k t c qt x a;

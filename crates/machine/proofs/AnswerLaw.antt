@@ -21,7 +21,7 @@ use Rattle.lockpage.proofs.StateLaw.{time_left_bytes_length}
 use Rattle.lockpage.proofs.PageLaw.{entry_at_front}
 use Rattle.addressing.specs.Map.{group_of, place_of, physical}
 use Rattle.disk.specs.Disk.{block}
-use Rattle.memory.specs.Memory.{salt, count, groups, held, none, serial}
+use Rattle.memory.specs.Memory.{salt, count, groups, held, none}
 use Rattle.machine.specs.declared.Kind.{Kind}
 use Rattle.machine.specs.declared.Kind.TheVariants.{Read, Entry, Page, Change, Restart}
 use Rattle.machine.specs.Command.{Box, Command, Outcome, kind_of, brought_page, brought_tag, answer_size}
@@ -119,7 +119,7 @@ module _ {γ : Geometry} (σ : Proper γ) where
       ∙ ap (λ (o : Outcome). tagged γ o.box.memory g (changed_page γ u c)) (sym same)
 
   -- kind 3 answers the current page, with its tag
-  pub page_answer : (s : Box) (c : Command) → kind_of c ≡ Page → refusal γ s c ≡ 0
+  page_answer : (s : Box) (c : Command) → kind_of c ≡ Page → refusal γ s c ≡ 0
       → (length (current_page γ (step γ s c).box c.block) ≡ page_size γ)
       × ((step γ s c).answer ≡ tagged γ (step γ s c).box.memory c.block (current_page γ (step γ s c).box c.block))
   unfolding done effect show_page stored timed
@@ -165,15 +165,15 @@ module _ {γ : Geometry} (σ : Proper γ) where
 
   -- ---- a page that left by itself
 
-  -- what serves, serves in a box with the same serial, salt, count and page
-  serves_same : (s t : Box) (g : ℕ) (proof : List ℕ) → serial γ t.memory ≡ serial γ s.memory → salt t.memory ≡ salt s.memory
-      → count t.memory g ≡ count s.memory g → current_page γ t g ≡ current_page γ s g → Serves γ s g proof → Serves γ t g proof
-  serves_same s t g proof ez es ec ep x =
+  -- what serves, serves in a box with the same salt, count and page
+  serves_same : (s t : Box) (g : ℕ) (proof : List ℕ) → salt t.memory ≡ salt s.memory → count t.memory g ≡ count s.memory g
+      → current_page γ t g ≡ current_page γ s g → Serves γ s g proof → Serves γ t g proof
+  serves_same s t g proof es ec ep x =
       record {
         page = x.page ∙ sym ep;
         matches =
             λ u.
-            ap (λ (l : List ℕ). equal (brought_tag γ proof) l) (tag_same σ s.memory t.memory g (brought_page γ proof) ez es ec) ∙ x.matches u;
+            ap (λ (l : List ℕ). equal (brought_tag γ proof) l) (tag_same σ s.memory t.memory g (brought_page γ proof) es ec) ∙ x.matches u;
       }
 
   -- a restart with none held
@@ -184,7 +184,7 @@ module _ {γ : Geometry} (σ : Proper γ) where
       let done = accepted_after σ s r a in
       let v = (passed σ Restart s r (all_yes σ Restart s r e a)).memory in
       let other : held γ m ≡ g → ⊥ = not_none σ m v g (held γ m) n h in
-      serves_same s (step γ s r).box g proof done.same_serial (done.new_salt_is ∙ ap (λ (k : Kind). salt_after k m r) e)
+      serves_same s (step γ s r).box g proof (done.new_salt_is ∙ ap (λ (k : Kind). salt_after k m r) e)
       (done.counts g h
       ∙ ap (λ (k : Kind). count_after γ k m r g) e
       ∙ count_unchanged (count m) (held γ m) (count m (held γ m) + 1) g (λ i. other (sym i)))

@@ -15,7 +15,7 @@ use Rattle.addressing.specs.Map.{disk_size, group_of, physical, page_block}
 use Rattle.addressing.proofs.MapLaw.{physical_same, physical_page, page_block_same, page_block_below}
 use Rattle.disk.specs.Disk.{block, with_block}
 use Rattle.disk.proofs.DiskLaw.{block_same, block_other, block_within}
-use Rattle.memory.specs.Memory.{salt, count, last_time, groups, held, none, held_page, serial}
+use Rattle.memory.specs.Memory.{salt, count, last_time, groups, held, none, held_page}
 use Rattle.memory.specs.Claims.{Reads, changed}
 use Rattle.validity.proofs.ValidLaw.{Valid}
 use Rattle.machine.specs.declared.Kind.TheVariants.{Change}
@@ -76,7 +76,6 @@ module _ {γ : Geometry} (σ : Proper γ) where
         (changed (count s.memory) (group_of γ c.block) (count s.memory (group_of γ c.block) + 1)) (last_time γ s.memory)
         (groups γ s.memory) (held_after γ (Change u) s.memory c) (updates_after γ (Change u) s.memory c)
         (elim (page_leaves γ s.memory (group_of γ c.block)) [ true ↦ repeated (page_size γ) 0 | false ↦ changed_page γ u c ])
-        (serial γ s.memory)
     change_reads =
         changed_reads σ s.memory q.memory.size (group_of γ c.block) (changed_page γ u c)
         (omega (arith, changed_group σ u s c x, q.memory.most)) (omega (arith, x.unexhausted)) (changed_length σ u c x.proof)

@@ -18,7 +18,7 @@ use Rattle.addressing.proofs.MapLaw.{place_of_below, physical_below, physical_pa
 use Rattle.disk.specs.Disk.{block, with_block}
 use Rattle.disk.proofs.DiskLaw.{with_block_length, block_other, block_within}
 use Rattle.memory.specs.Layout.{memory_size, salt_size, count_size}
-use Rattle.memory.specs.Memory.{salt, count, last_time, groups, held, none, update_count, held_page, with_count, with_no_counts, holding_none, serial}
+use Rattle.memory.specs.Memory.{salt, count, last_time, groups, held, none, update_count, held_page, with_count, with_no_counts, holding_none}
 use Rattle.memory.specs.Claims.{Reads, changed}
 use Rattle.memory.proofs.FieldLaw.{salt_set, count_set, counts_cleared, page_dropped, held_page_length}
 use Rattle.validity.proofs.ValidLaw.{Valid}
@@ -75,13 +75,13 @@ module _ {γ : Geometry} (σ : Proper γ) where
   restarted_reads : (m : List ℕ) → length m ≡ memory_size γ → (held γ m ≡ none → ⊥) → held γ m < γ.most_groups
       → count m (held γ m) + 1 < 256 ^ count_size
       → Reads γ (restarted_memory γ m) (salt m) (changed (count m) (held γ m) (count m (held γ m) + 1))
-      (last_time γ m) (groups γ m) none 0 (repeated (page_size γ) 0) (serial γ m)
+      (last_time γ m) (groups γ m) none 0 (repeated (page_size γ) 0)
   unfolding restarted_memory
   restarted_reads m l e h n = rw (restarted_memory, ne_eqb (held γ m) none e) (both (page_dropped σ m l))
     where
-      both : Reads γ (holding_none γ m) (salt m) (count m) (last_time γ m) (groups γ m) none 0 (repeated (page_size γ) 0) (serial γ m)
+      both : Reads γ (holding_none γ m) (salt m) (count m) (last_time γ m) (groups γ m) none 0 (repeated (page_size γ) 0)
           → Reads γ (with_count (holding_none γ m) (held γ m) (count m (held γ m) + 1)) (salt m) (changed (count m) (held γ m) (count m (held γ m) + 1))
-          (last_time γ m) (groups γ m) none 0 (repeated (page_size γ) 0) (serial γ m)
+          (last_time γ m) (groups γ m) none 0 (repeated (page_size γ) 0)
       both a =
           let b = count_set σ (holding_none γ m) a.size (held γ m) (count m (held γ m) + 1) h n in
           record {
@@ -93,7 +93,6 @@ module _ {γ : Geometry} (σ : Proper γ) where
             held = b.held ∙ a.held;
             updates = b.updates ∙ a.updates;
             page = b.page ∙ a.page;
-            serial = b.serial ∙ a.serial;
           }
 
   pub restarted_held : (m : List ℕ) → (held γ m ≡ none → ⊥) → restarted_memory γ m ≡ with_count (holding_none γ m) (held γ m) (count m (held γ m) + 1)
@@ -104,7 +103,7 @@ module _ {γ : Geometry} (σ : Proper γ) where
   module _ (m : List ℕ) (v : Valid γ m) where
     pub restarted_held_reads : (held γ m ≡ none → ⊥)
         → Reads γ (restarted_memory γ m) (salt m) (changed (count m) (held γ m) (count m (held γ m) + 1))
-        (last_time γ m) (groups γ m) none 0 (repeated (page_size γ) 0) (serial γ m)
+        (last_time γ m) (groups γ m) none 0 (repeated (page_size γ) 0)
     restarted_held_reads n = restarted_reads m v.size n (omega (arith, v.holds.group n, v.most)) (omega (arith, v.holds.unexhausted n))
 
     pub restarted_salt : salt (restarted_memory γ m) ≡ salt m
@@ -116,9 +115,6 @@ module _ {γ : Geometry} (σ : Proper γ) where
     pub restarted_groups : groups γ (restarted_memory γ m) ≡ groups γ m
     restarted_groups = same_or_not (held γ m) none (λ n. ap (groups γ) (restarted_none m n)) (λ n. (restarted_held_reads n).groups)
 
-    pub restarted_serial : serial γ (restarted_memory γ m) ≡ serial γ m
-    restarted_serial = same_or_not (held γ m) none (λ n. ap (serial γ) (restarted_none m n)) (λ n. (restarted_held_reads n).serial)
-
     pub restarted_drops : held γ (restarted_memory γ m) ≡ none
     restarted_drops = same_or_not (held γ m) none (λ n. ap (held γ) (restarted_none m n) ∙ n) (λ n. (restarted_held_reads n).held)
 
@@ -127,7 +123,7 @@ module _ {γ : Geometry} (σ : Proper γ) where
         same_or_not (held γ m) none (λ n. ap (update_count γ) (restarted_none m n) ∙ v.holds.no_updates n) (λ n. (restarted_held_reads n).updates)
 
   pub salted_reads : (m s : List ℕ) → length m ≡ memory_size γ → length s ≡ salt_size
-      → Reads γ (salted γ m s) s (λ k. 0) (last_time γ m) (groups γ m) none 0 (repeated (page_size γ) 0) (serial γ m)
+      → Reads γ (salted γ m s) s (λ k. 0) (last_time γ m) (groups γ m) none 0 (repeated (page_size γ) 0)
   unfolding salted
   salted_reads m s l ls =
       let a = page_dropped σ m l in
@@ -142,7 +138,6 @@ module _ {γ : Geometry} (σ : Proper γ) where
         held = d.held ∙ b.held ∙ a.held;
         updates = d.updates ∙ b.updates ∙ a.updates;
         page = d.page ∙ b.page ∙ a.page;
-        serial = d.serial ∙ b.serial ∙ a.serial;
       }
 
   -- the page that an update stores

@@ -51,7 +51,7 @@ unfolding formatted_box zero_box
 formatted_bytes =
     as_formatted.bytes
     (record { memory = repeated_below 256 (memory_size base) 0 (lit< tt); disk = repeated_below 256 (disk_size base 1) 0 (lit< tt) })
-    (repeated_below 256 salt_size 0 (lit< tt)) (below_none 256 (lit< tt))
+    (repeated_below 256 salt_size 0 (lit< tt))
 
 written_bytes : ByteBox written_box
 unfolding written_box

@@ -18,7 +18,7 @@ use Rattle.lockpage.specs.Page.{blank_entry}
 use Rattle.lockpage.proofs.GeometryLaw.{base_proper}
 use Rattle.addressing.specs.Map.{disk_size, data_blocks, group_of, place_of}
 use Rattle.memory.specs.Layout.{memory_size, salt_size}
-use Rattle.memory.specs.Memory.{Settings, settings_of, none}
+use Rattle.memory.specs.Memory.{none}
 use Rattle.machine.specs.Command.{Box, box_of, kind_numbered}
 use Rattle.machine.specs.Tag.{current_page}
 use Rattle.machine.specs.Question.{refusal}
@@ -41,21 +41,18 @@ use Rattle.machine.proofs.ExampleQueryLaw.{asking_served, asking_known}
 unfoldable pub zero_box : Box
 zero_box = box_of (repeated (memory_size base) 0) (repeated (disk_size base 1) 0)
 
-abbrev settings : Settings
-settings = settings_of 1 (repeated salt_size 0) []
+pub as_formatted : Formats base zero_box 1 (repeated salt_size 0)
+as_formatted = formats base_proper zero_box 1 (repeated salt_size 0)
 
-pub as_formatted : Formats base zero_box settings
-as_formatted = formats base_proper zero_box settings
-
-format_passes : (format base zero_box settings).number ≡ 0
+format_passes : (format base zero_box 1 (repeated salt_size 0)).number ≡ 0
 unfolding format_questions zero_box
 format_passes =
     as_formatted.number
-    ∙ yes_accepted (format_questions base zero_box settings) (
+    ∙ yes_accepted (format_questions base zero_box 1 (repeated salt_size 0)) (
       and_intro refl (and_intro refl (eq-eqb (length (repeated (memory_size base) 0)) (memory_size base) (repeated_length (memory_size base) 0))),
       (
         eq-eqb (length (repeated (disk_size base 1) 0)) (disk_size base 1) (repeated_length (disk_size base 1) 0),
-        (and_intro (eq-eqb (length (repeated salt_size 0)) salt_size (repeated_length salt_size 0)) refl, tt),
+        (eq-eqb (length (repeated salt_size 0)) salt_size (repeated_length salt_size 0), tt),
       ),
     )
 

@@ -18,8 +18,7 @@ use Rattle.addressing.proofs.MapLaw.{group_of_below, place_of_below, page_block_
 use Rattle.disk.specs.Disk.{block, with_block}
 use Rattle.disk.proofs.DiskLaw.{block_same, block_other, block_within}
 use Rattle.memory.specs.Layout.{memory_size, salt_size}
-use Rattle.memory.specs.Memory.{Settings, groups, formatted_memory, none}
-use Rattle.memory.specs.Ready.{Storable}
+use Rattle.memory.specs.Memory.{groups, held, formatted_memory, none}
 use Rattle.memory.specs.Claims.{Reads}
 use Rattle.memory.proofs.FormatLaw.{formatted_reads}
 use Rattle.memory.proofs.RangeLaw.{formatted_bytes}
@@ -38,12 +37,12 @@ use Rattle.machine.proofs.BytesLaw.{ByteStore, stored_are}
 
 -- γ is the box's geometry
 module _ (γ : Geometry) where
-  pub record Formattable (s : Box) (f : Settings) : Type 0 where
-    pub least : 1 ≤ f.groups
-    pub most : f.groups ≤ γ.most_groups
+  pub record Formattable (s : Box) (g : ℕ) (salt : List ℕ) : Type 0 where
+    pub least : 1 ≤ g
+    pub most : g ≤ γ.most_groups
     pub size : length s.memory ≡ memory_size γ
-    pub disk : length s.disk ≡ disk_size γ f.groups
-    pub storable : Storable γ f
+    pub disk : length s.disk ≡ disk_size γ g
+    pub salt_size_is : length salt ≡ salt_size
 
 -- γ is any proper geometry
 module _ {γ : Geometry} (σ : Proper γ) where
@@ -81,124 +80,106 @@ module _ {γ : Geometry} (σ : Proper γ) where
 
   -- ---- the questions
 
-  pub formattable : (s : Box) (f : Settings) → first_no (format_questions γ s f) ≡ 0 → Formattable γ s f
+  pub formattable : (s : Box) (g : ℕ) (salt : List ℕ) → first_no (format_questions γ s g salt) ≡ 0 → Formattable γ s g salt
   unfolding format_questions numbered_to
-  formattable s f e =
-      let h : AllYes (format_questions γ s f) = accepted_yes 6 (format_questions γ s f) refl e in
-      let g = f.groups in
+  formattable s g salt e =
+      let h : AllYes (format_questions γ s g salt) = accepted_yes 6 (format_questions γ s g salt) refl e in
       let least = leb 1 g in
       let most = leb g γ.most_groups in
       let size = eqb (length s.memory) (memory_size γ) in
       let rest = and_elim_right least (most && size) h.0 in
-      let few = leb-true g γ.most_groups (and_elim_left most size rest) in
-      let salt_size_is = eqb (length f.salt) salt_size in
-      let serial_size = eqb (length f.serial) γ.serial_size in
       record {
         least = leb-true 1 g (and_elim_left least (most && size) h.0);
-        most = few;
+        most = leb-true g γ.most_groups (and_elim_left most size rest);
         size = eqb-true (length s.memory) (memory_size γ) (and_elim_right most size rest);
         disk = eqb-true (length s.disk) (disk_size γ g) h.1.0;
-        storable =
-            record {
-              groups_byte = omega (arith, few, σ.few_groups);
-              salt_size_is = eqb-true (length f.salt) salt_size (and_elim_left salt_size_is serial_size h.1.1.0);
-              serial_size = eqb-true (length f.serial) γ.serial_size (and_elim_right salt_size_is serial_size h.1.1.0);
-            };
+        salt_size_is = eqb-true (length salt) salt_size h.1.1.0;
       }
 
   -- ---- formatting
 
-  module _ (s : Box) (f : Settings) where
+  module _ (s : Box) (g : ℕ) (salt : List ℕ) where
     -- the box that an accepted one leaves
     formatted_box : Box
-    formatted_box = box_of (formatted_memory γ f) (stored γ s.disk (blank_pages γ f.groups))
+    formatted_box = box_of (formatted_memory γ g salt) (stored γ s.disk (blank_pages γ g))
 
     first : ℕ
-    first = first_no (format_questions γ s f)
+    first = first_no (format_questions γ s g salt)
 
-    format_accepted : first ≡ 0 → format γ s f ≡ record { number = 0; box = formatted_box }
+    format_accepted : first ≡ 0 → format γ s g salt ≡ record { number = 0; box = formatted_box }
     unfolding format first formatted_box
-    format_accepted e = rw (format, eq-eqb (first_no (format_questions γ s f)) 0 e)
+    format_accepted e = rw (format, eq-eqb (first_no (format_questions γ s g salt)) 0 e)
 
-    format_refused : (first ≡ 0 → ⊥) → format γ s f ≡ record { number = first; box = s }
+    format_refused : (first ≡ 0 → ⊥) → format γ s g salt ≡ record { number = first; box = s }
     unfolding format first
-    format_refused e = rw (format, ne_eqb (first_no (format_questions γ s f)) 0 e)
+    format_refused e = rw (format, ne_eqb (first_no (format_questions γ s g salt)) 0 e)
 
     -- the same, from the parts that the code leaves
-    pub formatting_accepted : (m d : List ℕ) → first_no (format_questions γ s f) ≡ 0 → m ≡ formatted_memory γ f
-        → d ≡ stored γ s.disk (blank_pages γ f.groups) → format_outcome_of 0 m d ≡ format γ s f
+    pub formatting_accepted : (m d : List ℕ) → first_no (format_questions γ s g salt) ≡ 0 → m ≡ formatted_memory γ g salt
+        → d ≡ stored γ s.disk (blank_pages γ g) → format_outcome_of 0 m d ≡ format γ s g salt
     unfolding first formatted_box
     formatting_accepted m d e em ed =
         ap₂ (λ (x y : List ℕ). format_outcome_of 0 x y) em ed ∙ sym (format_accepted e)
 
-    pub formatting_refused : (n : ℕ) → n ≡ first_no (format_questions γ s f) → (n ≡ 0 → ⊥)
-        → format_outcome_of n s.memory s.disk ≡ format γ s f
+    pub formatting_refused : (n : ℕ) → n ≡ first_no (format_questions γ s g salt) → (n ≡ 0 → ⊥)
+        → format_outcome_of n s.memory s.disk ≡ format γ s g salt
     unfolding first
     formatting_refused n e h =
         ap (λ (i : ℕ). format_outcome_of i s.memory s.disk) e ∙ sym (format_refused (λ z. h (e ∙ z)))
 
-    format_number : (format γ s f).number ≡ first
+    format_number : (format γ s g salt).number ≡ first
     format_number =
         same_or_not first 0 (λ e. ap (λ (o : FormatOutcome). o.number) (format_accepted e) ∙ sym e)
         (λ e. ap (λ (o : FormatOutcome). o.number) (format_refused e))
 
     -- what holds of the box and of the formatted one holds of the box after
-    after_format : (P : Box → Type 0) → P s → (Formattable γ s f → P formatted_box) → P (format γ s f).box
+    after_format : (P : Box → Type 0) → P s → (Formattable γ s g salt → P formatted_box) → P (format γ s g salt).box
     unfolding first
     after_format P same new =
-        same_or_not first 0 (λ e. subst (λ (o : FormatOutcome). P o.box) (sym (format_accepted e)) (new (formattable s f e)))
+        same_or_not first 0 (λ e. subst (λ (o : FormatOutcome). P o.box) (sym (format_accepted e)) (new (formattable s g salt e)))
         (λ e. subst (λ (o : FormatOutcome). P o.box) (sym (format_refused e)) same)
 
-    when_accepted : (P : Box → Type 0) → (Formattable γ s f → P formatted_box) → (format γ s f).number ≡ 0 → P (format γ s f).box
+    when_accepted : (P : Box → Type 0) → (Formattable γ s g salt → P formatted_box) → (format γ s g salt).number ≡ 0 → P (format γ s g salt).box
     unfolding first
     when_accepted P new z =
         let e = sym format_number ∙ z in
-        subst (λ (o : FormatOutcome). P o.box) (sym (format_accepted e)) (new (formattable s f e))
+        subst (λ (o : FormatOutcome). P o.box) (sym (format_accepted e)) (new (formattable s g salt e))
 
-    box_valid : Formattable γ s f → ValidBox γ formatted_box
+    box_valid : Formattable γ s g salt → ValidBox γ formatted_box
     unfolding formatted_box
-    box_valid x =
-        let g = f.groups in
-        let r = formatted_reads σ f x.storable in
+    box_valid f =
+        let r = formatted_reads σ g salt (omega (arith, f.most)) f.salt_size_is in
         record {
-          memory = valid_formatted σ f x.storable x.least x.most;
+          memory = valid_formatted σ g salt f.least f.most f.salt_size_is;
           disk =
-              stored_length σ g s.disk (blank_pages γ g) (each_blank (Whole γ g) g (blank_whole g)) x.disk ∙ ap (disk_size γ) (sym r.groups);
+              stored_length σ g s.disk (blank_pages γ g) (each_blank (Whole γ g) g (blank_whole g)) f.disk ∙ ap (disk_size γ) (sym r.groups);
         }
 
-    box_page : Formattable γ s f → (g : ℕ) → g < f.groups → current_page γ formatted_box g ≡ blank_page γ
+    box_blank : Formattable γ s g salt → (a : ℕ) → a < data_blocks γ g → entry_at (current_page γ formatted_box (group_of γ a)) (place_of γ a) ≡ blank_entry
     unfolding formatted_box
-    box_page x g h =
-        let n = f.groups in
-        let r = formatted_reads σ f x.storable in
-        current_other σ formatted_box g (λ e. omega (arith, e, r.held, x.most)) ∙ blank_after n n s.disk (omega arith) x.disk g h
-
-    box_blank : Formattable γ s f → (a : ℕ) → a < data_blocks γ f.groups
-        → entry_at (current_page γ formatted_box (group_of γ a)) (place_of γ a) ≡ blank_entry
-    box_blank x a h =
-        ap (λ (p : List ℕ). entry_at p (place_of γ a)) (box_page x (group_of γ a) (group_of_below σ f.groups a h))
+    box_blank f a h =
+        let r = formatted_reads σ g salt (omega (arith, f.most)) f.salt_size_is in
+        let below = group_of_below σ g a h in
+        ap (λ (p : List ℕ). entry_at p (place_of γ a))
+        (current_other σ formatted_box (group_of γ a) (λ e. omega (arith, e, r.held, f.most))
+        ∙ blank_after g g s.disk (omega arith) f.disk (group_of γ a) below)
         ∙ blank_page_at σ (place_of γ a) (place_of_below σ a)
 
-    box_untouched : Formattable γ s f → (a : ℕ) → block γ formatted_box.disk (physical γ a) ≡ block γ s.disk (physical γ a)
+    box_untouched : Formattable γ s g salt → (a : ℕ) → block γ formatted_box.disk (physical γ a) ≡ block γ s.disk (physical γ a)
     unfolding formatted_box
-    box_untouched x a =
-        let g = f.groups in
+    box_untouched f a =
         untouched σ g (physical γ a) s.disk (blank_pages γ g)
-        (each_blank (Elsewhere γ g (physical γ a)) g (λ h l. record { whole = blank_whole g h l; other = physical_page σ a h })) x.disk
+        (each_blank (Elsewhere γ g (physical γ a)) g (λ h l. record { whole = blank_whole g h l; other = physical_page σ a h })) f.disk
 
-    box_bytes : ByteBox s → AreBytes f.salt → AreBytes f.serial → ByteBox formatted_box
+    box_bytes : ByteBox s → AreBytes salt → ByteBox formatted_box
     unfolding formatted_box
-    box_bytes b t z =
+    box_bytes b t =
         record {
-          memory = formatted_bytes σ f t z;
-          disk = stored_are σ s.disk (blank_pages γ f.groups) (each_blank ByteStore f.groups (λ h l. blank_page_are σ)) b.disk;
+          memory = formatted_bytes σ g salt t;
+          disk = stored_are σ s.disk (blank_pages γ g) (each_blank ByteStore g (λ h l. blank_page_are σ)) b.disk;
         }
 
-    -- each group's page is blank
-    pub formatted_page : (format γ s f).number ≡ 0 → (g : ℕ) → g < f.groups → current_page γ (format γ s f).box g ≡ blank_page γ
-    formatted_page z g h = when_accepted (λ (t : Box). current_page γ t g ≡ blank_page γ) (λ x. box_page x g h) z
-
-    pub formats : Formats γ s f
+    pub formats : Formats γ s g salt
     unfolding first formatted_box
     formats =
         record {
@@ -206,10 +187,10 @@ module _ {γ : Geometry} (σ : Proper γ) where
           refused = λ n. ap (λ (o : FormatOutcome). o.box) (format_refused (λ e. n (format_number ∙ e)));
           valid = when_accepted (ValidBox γ) box_valid;
           reads =
-              when_accepted (λ (t : Box). Reads γ t.memory f.salt (λ k. 0) 0 f.groups none 0 (repeated (page_size γ) 0) f.serial)
-              (λ x. formatted_reads σ f x.storable);
-          blank = λ z a h. when_accepted (λ (t : Box). entry_at (current_page γ t (group_of γ a)) (place_of γ a) ≡ blank_entry) (λ x. box_blank x a h) z;
+              when_accepted (λ (t : Box). Reads γ t.memory salt (λ k. 0) 0 g none 0 (repeated (page_size γ) 0))
+              (λ f. formatted_reads σ g salt (omega (arith, f.most)) f.salt_size_is);
+          blank = λ z a h. when_accepted (λ (t : Box). entry_at (current_page γ t (group_of γ a)) (place_of γ a) ≡ blank_entry) (λ f. box_blank f a h) z;
           untouched =
-              λ a. after_format (λ (t : Box). block γ t.disk (physical γ a) ≡ block γ s.disk (physical γ a)) refl (λ x. box_untouched x a);
-          bytes = λ b t z. after_format ByteBox b (λ x. box_bytes b t z);
+              λ a. after_format (λ (t : Box). block γ t.disk (physical γ a) ≡ block γ s.disk (physical γ a)) refl (λ f. box_untouched f a);
+          bytes = λ b t. after_format ByteBox b (λ f. box_bytes b t);
         }

@@ -14,7 +14,7 @@ use Rattle.lockpage.specs.declared.Update.{Update}
 use Rattle.lockpage.specs.declared.Update.TheVariants.{Write}
 use Rattle.addressing.specs.Map.{group_of, page_block}
 use Rattle.memory.specs.Layout.{memory_size, count_size}
-use Rattle.memory.specs.Memory.{salt, count, last_time, groups, held, none, most_updates, update_count, with_count, holding, holding_none, serial}
+use Rattle.memory.specs.Memory.{salt, count, last_time, groups, held, none, most_updates, update_count, with_count, holding, holding_none}
 use Rattle.memory.specs.Claims.{Reads, changed}
 use Rattle.memory.proofs.FieldLaw.{count_set, page_held, page_dropped}
 use Rattle.machine.specs.Command.{Box, Command}
@@ -102,9 +102,9 @@ module _ {γ : Geometry} (σ : Proper γ) where
   changed_staying m g p e = rw (changed_memory, e)
 
   -- what is held changes after the other fields
-  held_after : {m n s : List ℕ} {c : ℕ → ℕ} {t g h k : ℕ} {p z : List ℕ} {i j : ℕ} {q : List ℕ} → Reads γ m s c t g h k p z
-      → Reads γ n (salt m) (count m) (last_time γ m) (groups γ m) i j q (serial γ m) → Reads γ n s c t g i j q z
-  held_after a b =
+  held_after : (m n s : List ℕ) (c : ℕ → ℕ) (t g h k : ℕ) (p : List ℕ) (i j : ℕ) (q : List ℕ) → Reads γ m s c t g h k p
+      → Reads γ n (salt m) (count m) (last_time γ m) (groups γ m) i j q → Reads γ n s c t g i j q
+  held_after m n s c t g h k p i j q a b =
       record {
         size = b.size;
         salt = b.salt ∙ a.salt;
@@ -114,7 +114,6 @@ module _ {γ : Geometry} (σ : Proper γ) where
         held = b.held;
         updates = b.updates;
         page = b.page;
-        serial = b.serial ∙ a.serial;
       }
 
   -- the changed page is held, or has left
@@ -122,7 +121,7 @@ module _ {γ : Geometry} (σ : Proper γ) where
       → length p ≡ page_size γ
       → Reads γ (changed_memory γ m g p) (salt m) (changed (count m) g (count m g + 1)) (last_time γ m) (groups γ m)
       (elim (page_leaves γ m g) [ true ↦ none | false ↦ g ]) (elim (page_leaves γ m g) [ true ↦ 0 | false ↦ next_update_count γ m g ])
-      (elim (page_leaves γ m g) [ true ↦ repeated (page_size γ) 0 | false ↦ p ]) (serial γ m)
+      (elim (page_leaves γ m g) [ true ↦ repeated (page_size γ) 0 | false ↦ p ])
   unfolding changed_memory
   changed_reads m l g p h n lp = go (page_leaves γ m g) refl
     where
@@ -133,13 +132,13 @@ module _ {γ : Geometry} (σ : Proper γ) where
                 holding γ (with_count m g (count m g + 1)) g (next_update_count γ m g) p
           ])
           (salt m) (changed (count m) g (count m g + 1)) (last_time γ m) (groups γ m) (elim b [ true ↦ none | false ↦ g ])
-          (elim b [ true ↦ 0 | false ↦ next_update_count γ m g ]) (elim b [ true ↦ repeated (page_size γ) 0 | false ↦ p ]) (serial γ m)
+          (elim b [ true ↦ 0 | false ↦ next_update_count γ m g ]) (elim b [ true ↦ repeated (page_size γ) 0 | false ↦ p ])
       go true e =
           let a = count_set σ m l g (count m g + 1) h n in
-          held_after a (page_dropped σ (with_count m g (count m g + 1)) a.size)
+          held_after _ _ _ _ _ _ _ _ _ _ _ _ a (page_dropped σ (with_count m g (count m g + 1)) a.size)
       go false e =
           let a = count_set σ m l g (count m g + 1) h n in
-          held_after a
+          held_after _ _ _ _ _ _ _ _ _ _ _ _ a
           (page_held σ (with_count m g (count m g + 1)) a.size g (next_update_count γ m g) p (omega arith) (omega (arith, stays_few m g e)) lp)
 
   -- ---- an update's stores

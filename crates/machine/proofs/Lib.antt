@@ -22,7 +22,6 @@ pub mod PagesLaw
 pub mod QueryShownLaw
 pub mod FormatLaw
 pub mod ShortcutLaw
-pub mod SerialLaw
 pub mod LossLaw
 pub mod EdgeLaw
 pub mod ExampleLaw

@@ -15,7 +15,7 @@ use Rattle.lockpage.specs.State.{state}
 use Rattle.lockpage.specs.Update.{latest_time, updated, allowed, within_limit}
 use Rattle.addressing.specs.Map.{disk_size, data_blocks, group_of}
 use Rattle.addressing.proofs.MapLaw.{group_of_below}
-use Rattle.memory.specs.Memory.{salt, count, last_time, groups, held, held_page, with_last_time, update_count, serial}
+use Rattle.memory.specs.Memory.{salt, count, last_time, groups, held, held_page, with_last_time, update_count}
 use Rattle.memory.specs.Claims.{Reads}
 use Rattle.memory.proofs.FieldLaw.{time_set}
 use Rattle.validity.specs.Valid.{count_limit}
@@ -118,7 +118,7 @@ module _ {γ : Geometry} (σ : Proper γ) where
 
   pub timed_reads : (s : Box) (now : ℕ) → Timely γ s now
       → Reads γ (timed γ s now).memory (salt s.memory) (count s.memory) now (groups γ s.memory) (held γ s.memory) (update_count γ s.memory)
-      (held_page γ s.memory) (serial γ s.memory)
+      (held_page γ s.memory)
   unfolding timed
   timed_reads s now h = time_set σ s.memory h.memory.size now (omega (arith, h.early))
 

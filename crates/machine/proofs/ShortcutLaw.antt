@@ -23,11 +23,10 @@ use Rattle.memory.specs.Memory.{count, groups, held}
 use Rattle.memory.specs.Claims.{changed}
 use Rattle.validity.specs.Valid.{count_limit}
 use Rattle.validity.proofs.ValidLaw.{Valid, facts}
-use Rattle.blake3.specs.Blake3.{digest}
 use Rattle.machine.specs.declared.Kind.{Kind}
 use Rattle.machine.specs.declared.Kind.TheVariants.{Read, Entry, Page, Change, Sync, Restart, NewSalt, Identify, Unknown}
 use Rattle.machine.specs.Command.{Box, Command, kind_of, brought_page, brought_tag, brought_entry}
-use Rattle.machine.specs.Tag.{tag_message, tag, current_entry}
+use Rattle.machine.specs.Tag.{tag, current_entry}
 use Rattle.machine.specs.Question.{questions_to, refusal, AllYes}
 use Rattle.machine.specs.Effect.{changed_page}
 use Rattle.machine.specs.Step.{step}
@@ -35,12 +34,12 @@ use Rattle.machine.specs.Query.{Query, query_refusal, query_step}
 use Rattle.machine.specs.Run.{Event, Given, Queried, after, run, Throughout}
 use Rattle.machine.specs.Claims.{RefusedBy, ValidBox}
 use Rattle.machine.specs.After.{count_after}
-use Rattle.machine.specs.Shortcuts.{Distinguished, SaltStays, TagsDiffer, NotFreeBeforeExpiry, OldPageRefused, LostPageRefused, OnNoPage, SecondUnfreezeRefused}
+use Rattle.machine.specs.Shortcuts.{SaltStays, TagsDiffer, NotFreeBeforeExpiry, OldPageRefused, LostPageRefused, OnNoPage, SecondUnfreezeRefused}
 use Rattle.machine.proofs.CaseLaw.{same_or_not}
 use Rattle.machine.proofs.KindLaw.{new_salt_number, write_kind, unfreeze_kind, restart_kind}
 use Rattle.machine.proofs.QuestionLaw.{all_seven, all_yes, refused_by_seventh, refused_by_ninth, got_seventh, nine_seven, seventh_yes, ninth_yes}
 use Rattle.machine.proofs.StepLaw.{step_number, accepts, refused_by_lem, accepted_or_same}
-use Rattle.machine.proofs.TagLaw.{tagged_right, message_same}
+use Rattle.machine.proofs.TagLaw.{tagged_page, tagged_tag, message_same}
 use Rattle.machine.proofs.PassedLaw.{passed, changes, changed_group, timed_reads}
 use Rattle.machine.proofs.QueryLaw.{query_passed, query_times, query_or_same, query_valid}
 use Rattle.machine.proofs.EffectLaw.{changed_length, count_changed, count_unchanged}
@@ -109,18 +108,7 @@ module _ {γ : Geometry} (σ : Proper γ) where
       let now : flag (brought_entry γ d).stamp ≡ unfrozen_flag = ap (λ (i : PageEntry). flag i.stamp) found ∙ unfrozen_flag_lem c.now e in
       omega arith))
 
-  -- ---- a wrong tag
-
-  -- a page with the tag of another message than its own in the box is refused
-  pub wrong_tag : (x : List ℕ) (t : Box) (d : Command) (v : Update) → kind_of d ≡ Change v → brought_tag γ d.proof ≡ digest x
-      → Distinguished x (tag_message γ t.memory (group_of γ d.block) (brought_page γ d.proof))
-      → (length t.memory ≡ memory_size γ → x ≡ tag_message γ t.memory (group_of γ d.block) (brought_page γ d.proof) → ⊥)
-      → RefusedBy γ 7 t d
-  unfolding tag
-  wrong_tag x t d v e brought differ other =
-      refused_by_lem σ 7 t d
-      (refused_by_seventh σ v t d e
-      (λ h. other (facts σ t.memory h.0).size (differ (sym brought ∙ seventh_yes σ v t d h))))
+  -- ---- an old tag
 
   -- a page with the tag of a memory with another count of its group is refused
   stale : (m : List ℕ) (g : ℕ) (t : Box) (d : Command) (v : Update) → kind_of d ≡ Change v → group_of γ d.block ≡ g
@@ -129,12 +117,13 @@ module _ {γ : Geometry} (σ : Proper γ) where
       → TagsDiffer γ m t.memory g (brought_page γ d.proof) → RefusedBy γ 7 t d
   unfolding tag
   stale m g t d v e same old lm lt sm st other differ =
+      refused_by_lem σ 7 t d
+      (refused_by_seventh σ v t d e
+      (λ h.
       let p = brought_page γ d.proof in
-      let x = tag_message γ m g p in
-      let own : tag_message γ t.memory g p ≡ tag_message γ t.memory (group_of γ d.block) p =
-      ap (λ (i : ℕ). tag_message γ t.memory i p) (sym same) in
-      wrong_tag x t d v e old (subst (Distinguished x) own differ)
-      (λ l f. other (message_same σ m t.memory g p p lm lt sm st (f ∙ sym own)))
+      let fresh : brought_tag γ d.proof ≡ tag γ t.memory g p =
+      seventh_yes σ v t d h ∙ ap (λ (i : ℕ). tag γ t.memory i p) same in
+      other (message_same σ m t.memory g p p lm lt sm st (differ (sym old ∙ fresh)))))
 
   -- ---- counts without a new salt
 
@@ -219,7 +208,8 @@ module _ {γ : Geometry} (σ : Proper γ) where
         let g = group_of γ c.block in
         let p = changed_page γ u c in
         let size = changed_length σ u c (changes σ u s c updated_yes).proof in
-        tagged_right σ m g p size (changed_answer σ u s c e r)
+        subst (λ (l : List ℕ). brought_tag γ l ≡ tag γ m g (brought_page γ l)) (sym (changed_answer σ u s c e r))
+        (tagged_tag σ m g p size ∙ ap (tag γ m g) (sym (tagged_page σ m g p size)))
 
   -- a restart after it counts once more
   counted_restart : (u : Update) (s : Box) (c r : Command) → kind_of c ≡ Change u → kind_of r ≡ Restart → refusal γ s c ≡ 0

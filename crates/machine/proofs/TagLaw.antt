@@ -1,5 +1,5 @@
 -- Laws of the tag and of the current page. Assumes nothing; the digest is never looked into.
-use mathlib.Core.Path.{◌≡◌, refl, ap, sym, subst, ◌∙◌}
+use mathlib.Core.Path.{◌≡◌, refl, ap, sym, ◌∙◌}
 use mathlib.Core.Bool.{Bool, true, false}
 use mathlib.Core.List.{List, ◌++◌}
 use Prim.Native.Nat.{ℕ, ◌+◌, ◌^◌, ◌<◌}
@@ -18,9 +18,9 @@ use Rattle.addressing.specs.Map.{disk_size, page_block}
 use Rattle.addressing.proofs.MapLaw.{page_block_below}
 use Rattle.disk.specs.Disk.{block}
 use Rattle.disk.proofs.DiskLaw.{block_length, block_are, block_within}
-use Rattle.memory.specs.Layout.{memory_size, salt_size, count_size, serial_start}
-use Rattle.memory.specs.Memory.{salt, count, groups, held, held_page, serial}
-use Rattle.memory.proofs.FieldLaw.{salt_length, held_page_length, serial_length}
+use Rattle.memory.specs.Layout.{memory_size, salt_size, count_size}
+use Rattle.memory.specs.Memory.{salt, count, groups, held, held_page}
+use Rattle.memory.proofs.FieldLaw.{salt_length, held_page_length}
 use Rattle.memory.proofs.RangeLaw.{held_page_bytes}
 use Rattle.blake3.specs.Claims.{DigestIsBytes}
 use Rattle.blake3.proofs.Theorems.{digest_is_bytes}
@@ -47,11 +47,10 @@ module _ {γ : Geometry} (σ : Proper γ) where
   unfolding tagged
   tagged_are m g p b = below_append 256 p (tag γ m g p) b (tag_are m g p)
 
-  -- the tag hangs on the serial, the salt and the group's count
-  pub tag_same : (m n : List ℕ) (g : ℕ) (p : List ℕ) → serial γ n ≡ serial γ m → salt n ≡ salt m → count n g ≡ count m g
-      → tag γ n g p ≡ tag γ m g p
+  -- the tag hangs on the salt and on the group's count
+  pub tag_same : (m n : List ℕ) (g : ℕ) (p : List ℕ) → salt n ≡ salt m → count n g ≡ count m g → tag γ n g p ≡ tag γ m g p
   unfolding tag tag_message
-  tag_same m n g p ez es ec = rw (ez, es, ec)
+  tag_same m n g p es ec = rw (es, ec)
 
   -- what is brought when a page is brought with its tag
   pub tagged_page : (m : List ℕ) (g : ℕ) (p : List ℕ) → length p ≡ page_size γ → brought_page γ (tagged γ m g p) ≡ p
@@ -61,13 +60,6 @@ module _ {γ : Geometry} (σ : Proper γ) where
   pub tagged_tag : (m : List ℕ) (g : ℕ) (p : List ℕ) → length p ≡ page_size γ → brought_tag γ (tagged γ m g p) ≡ tag γ m g p
   unfolding tagged brought_tag
   tagged_tag m g p l = part_second p (tag γ m g p) (page_size γ) tag_size l (tag_length m g p)
-
-  -- and so the tag brought is right
-  pub tagged_right : (m : List ℕ) (g : ℕ) (p : List ℕ) → length p ≡ page_size γ → {proof : List ℕ} → proof ≡ tagged γ m g p
-      → brought_tag γ proof ≡ tag γ m g (brought_page γ proof)
-  tagged_right m g p l e =
-      subst (λ (x : List ℕ). brought_tag γ x ≡ tag γ m g (brought_page γ x)) (sym e)
-      (tagged_tag m g p l ∙ ap (tag γ m g) (sym (tagged_page m g p l)))
 
   pub brought_length : (proof : List ℕ) → length proof ≡ proof_size γ → length (brought_page γ proof) ≡ page_size γ
   unfolding brought_page
@@ -81,60 +73,34 @@ module _ {γ : Geometry} (σ : Proper γ) where
 
   -- the count is read back from where it stands in the message
   pub message_count : (m : List ℕ) (g : ℕ) (p : List ℕ) → length m ≡ memory_size γ → count m g < 256 ^ count_size
-      → number (part (tag_message γ m g p) (γ.serial_size + (salt_size + group_number_size)) count_size) ≡ count m g
+      → number (part (tag_message γ m g p) (salt_size + group_number_size) count_size) ≡ count m g
   unfolding tag_message
   message_count m g p l small =
-      let z = serial γ m in
       let s = salt m in
       let b = bytes group_number_size g in
       let n = bytes count_size (count m g) in
-      let at : γ.serial_size + (salt_size + group_number_size) ≡ length z + (length s + (length b + 0)) =
-      omega (arith, serial_length σ m l, salt_length σ m l, bytes_length group_number_size g) in
-      ap (λ (k : ℕ). number (part (z ++ (s ++ (b ++ (n ++ p)))) k count_size)) at
-      ∙ ap number
-      (part_right z (s ++ (b ++ (n ++ p))) (length s + (length b + 0)) count_size
-      ∙ part_right s (b ++ (n ++ p)) (length b + 0) count_size
-      ∙ part_right b (n ++ p) 0 count_size
+      let at : salt_size + group_number_size ≡ length s + (length b + 0) = omega (arith, salt_length σ m l, bytes_length group_number_size g) in
+      ap (λ (k : ℕ). number (part (s ++ (b ++ (n ++ p))) k count_size)) at
+      ∙ ap number (part_right s (b ++ (n ++ p)) (length b + 0) count_size ∙ part_right b (n ++ p) 0 count_size
       ∙ part_first n p count_size (bytes_length count_size (count m g)))
       ∙ number_bytes count_size (count m g) small
 
-  -- in a box without a serial there is nothing in front
-  pub message_without : γ.serial_size ≡ 0 → (m : List ℕ) (g : ℕ) (p : List ℕ)
-      → tag_message γ m g p ≡ salt m ++ (bytes group_number_size g ++ (bytes count_size (count m g) ++ p))
-  unfolding tag_message serial part
-  message_without e m g p =
-      ap (λ (k : ℕ). part m (serial_start γ) k ++ (salt m ++ (bytes group_number_size g ++ (bytes count_size (count m g) ++ p)))) e
-
-  -- the serial stands in front
-  pub message_serial : (m : List ℕ) (g : ℕ) (p : List ℕ) → length m ≡ memory_size γ
-      → part (tag_message γ m g p) 0 γ.serial_size ≡ serial γ m
-  unfolding tag_message
-  message_serial m g p l = part_first (serial γ m) _ γ.serial_size (serial_length σ m l)
-
   pub message_length : (m : List ℕ) (g : ℕ) (p : List ℕ) → length m ≡ memory_size γ
-      → length (tag_message γ m g p) ≡ γ.serial_size + (salt_size + (group_number_size + (count_size + length p)))
+      → length (tag_message γ m g p) ≡ salt_size + (group_number_size + (count_size + length p))
   unfolding tag_message
   message_length m g p l =
       let n : List ℕ = bytes count_size (count m g) in
       let b : List ℕ = bytes group_number_size g in
-      length-append (serial γ m) (salt m ++ (b ++ (n ++ p)))
-      ∙ omega (
-        arith,
-        serial_length σ m l,
-        salt_length σ m l,
-        length-append (salt m) (b ++ (n ++ p)),
-        length-append b (n ++ p),
-        length-append n p,
-        bytes_length group_number_size g,
-        bytes_length count_size (count m g),
-      )
+      length-append (salt m) (b ++ (n ++ p))
+      ∙ omega
+      (arith, salt_length σ m l, length-append b (n ++ p), length-append n p, bytes_length group_number_size g, bytes_length count_size (count m g))
 
   -- two messages that are the same have the same count
   pub message_same : (m n : List ℕ) (g : ℕ) (p q : List ℕ) → length m ≡ memory_size γ → length n ≡ memory_size γ
       → count m g < 256 ^ count_size → count n g < 256 ^ count_size → tag_message γ m g p ≡ tag_message γ n g q → count m g ≡ count n g
   message_same m n g p q lm ln sm sn e =
       sym (message_count m g p lm sm)
-      ∙ ap (λ (l : List ℕ). number (part l (γ.serial_size + (salt_size + group_number_size)) count_size)) e
+      ∙ ap (λ (l : List ℕ). number (part l (salt_size + group_number_size) count_size)) e
       ∙ message_count n g q ln sn
 
   -- ---- the current page

@@ -14,13 +14,12 @@ use Rattle.validity.proofs.ValidLaw.{facts}
 use Rattle.machine.specs.Command.{Box, Command, kind_of}
 use Rattle.machine.specs.Question.{refusal, questions}
 use Rattle.machine.specs.Step.{step, padded}
-use Rattle.machine.specs.Claims.{PapersBufferSizes, PapersPresentMessage, PassesIfAllYes, KindsAreOneToTen, NumberIsFirstNo, RefusalAltersNothing, AcceptedLeavesValid}
+use Rattle.machine.specs.Claims.{PapersBufferSizes, PassesIfAllYes, KindsAreOneToTen, NumberIsFirstNo, RefusalAltersNothing, AcceptedLeavesValid}
 use Rattle.machine.specs.Claims.{StaysValid, InvalidRefuses, StepKeepsBytes, SameLengths, StepKeepsLengths, FormattingFormats}
 use Rattle.machine.specs.After.{AcceptedDoes, NewSaltDiffers, HeldPageFirst, LeavingPageLast, AnswersServe}
 use Rattle.machine.specs.Protection.{start_content, start_entry, FrozenUnder, Demand3, ReadsAlike, EntriesAlike}
 use Rattle.machine.specs.Leaving.{RestartLosesFew, FollowedUpdateStays, LeftPageServes}
 use Rattle.machine.specs.Shortcuts.{Shortcuts}
-use Rattle.machine.specs.Serial.{SerialStays, CrossedPageRefused}
 use Rattle.machine.specs.EdgeValues.{EdgeValues}
 use Rattle.machine.specs.Expiry.{ProtectedThroughLock, lock_of, UnfrozenNotFree, UnfrozenThenFree}
 use Rattle.machine.specs.Example.{PremisesMet, ExpiryMet, CountingMet}
@@ -29,7 +28,7 @@ use Rattle.machine.proofs.CaseLaw.{same_or_not}
 use Rattle.machine.proofs.KindLaw.{one_to_ten, new_salt_kind}
 use Rattle.machine.proofs.QuestionLaw.{passes_if, answers_first_no, refused_by_second, all_numbered, all_yes}
 use Rattle.machine.proofs.StepLaw.{unaltered_bytes, unaltered_lengths, refused_by_lem, step_number, accepts, refused_unaltered}
-use Rattle.machine.proofs.TagLaw.{message_length, message_without}
+use Rattle.machine.proofs.TagLaw.{message_length}
 use Rattle.machine.proofs.PassedLaw.{passed}
 use Rattle.machine.proofs.LeavingLaw.{held_first, leaving_last}
 use Rattle.machine.proofs.ValidBoxLaw.{accepted_valid, run_valid}
@@ -40,7 +39,6 @@ use Rattle.machine.proofs.AnswerLaw.{answer_serves, left_serves}
 use Rattle.machine.proofs.LossLaw.{loses_few, followed_stays}
 use Rattle.machine.proofs.FormatLaw as format
 use Rattle.machine.proofs.ShortcutLaw as shortcut
-use Rattle.machine.proofs.SerialLaw as serial
 use Rattle.machine.proofs.EdgeLaw as edge
 use Rattle.machine.proofs.ExamplePremises as example
 use Rattle.machine.proofs.AlikeLaw.{both_shown, seen_alike}
@@ -52,17 +50,7 @@ use Rattle.machine.proofs.ExampleLeaving as example-leaving
 
 pub papers_buffer_sizes : PapersBufferSizes
 papers_buffer_sizes =
-    record {
-      tag = refl;
-      proof = refl;
-      answer = refl;
-      message = λ m g page l n. message_length base_proper m g page l ∙ omega arith;
-      no_serial = message_without base_proper refl;
-    }
-
-pub papers_present_message : PapersPresentMessage
-unfolding PapersPresentMessage
-papers_present_message m g page l n = message_length present_proper m g page l ∙ omega arith
+    record { tag = refl; proof = refl; answer = refl; message = λ m g page l n. message_length base_proper m g page l ∙ omega arith }
 
 -- γ is any proper geometry
 module _ {γ : Geometry} (σ : Proper γ) where
@@ -155,14 +143,6 @@ module _ {γ : Geometry} (σ : Proper γ) where
 
   pub left_page_serves : LeftPageServes γ
   left_page_serves = left_serves σ
-
-  -- ---- specs/Serial.antt
-
-  pub serial_stays : SerialStays γ
-  serial_stays = serial.serial_stays σ
-
-  pub crossed_page_refused : CrossedPageRefused γ
-  crossed_page_refused = serial.crossed_page_refused σ
 
   -- ---- specs/Shortcuts.antt
 

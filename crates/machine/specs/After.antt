@@ -1,12 +1,12 @@
--- What an accepted command does to the box, field by field: the last time, the salt, the counts, the held group, its updates, the serial,
--- each group's current page and each block's content. Each claim is a type; its proof has the claim's name in proofs/Theorems.antt.
+-- What an accepted command does to the box, field by field: the last time, the salt, the counts, the held group, its updates, each
+-- group's current page and each block's content. Each claim is a type; its proof has the claim's name in proofs/Theorems.antt.
 use Rattle.std.specs.Prelude.{◌≡◌, true, false, List, [], ◌∷◌, ℕ, ◌+◌, ◌<◌, eqb}
 use Rattle.lockpage.specs.Geometry.{Geometry}
 use Rattle.lockpage.specs.declared.Update.{Update}
 use Rattle.lockpage.specs.declared.Update.TheVariants.{Write, Unfreeze, Increment}
 use Rattle.addressing.specs.Map.{group_of, physical, page_block}
 use Rattle.disk.specs.Disk.{block}
-use Rattle.memory.specs.Memory.{salt, count, last_time, groups, held, none, most_updates, update_count, held_page, serial}
+use Rattle.memory.specs.Memory.{salt, count, last_time, groups, held, none, most_updates, update_count, held_page}
 use Rattle.memory.specs.Claims.{changed}
 use Rattle.machine.specs.declared.Kind.{Kind}
 use Rattle.machine.specs.declared.Kind.TheVariants.{Read, Entry, Page, Change, Sync, Restart, NewSalt, Identify, Unknown}
@@ -99,7 +99,6 @@ module _ (γ : Geometry) where
     pub counts : (g : ℕ) → g < groups γ s.memory → count (step γ s c).box.memory g ≡ count_after (kind_of c) s.memory c g
     pub held_group : held γ (step γ s c).box.memory ≡ held_after (kind_of c) s.memory c
     pub updates : update_count γ (step γ s c).box.memory ≡ updates_after (kind_of c) s.memory c
-    pub same_serial : serial γ (step γ s c).box.memory ≡ serial γ s.memory
     pub page : (g : ℕ) → g < groups γ s.memory → current_page γ (step γ s c).box g ≡ page_after (kind_of c) s c g
     pub content : (a : ℕ) → block γ (step γ s c).box.disk (physical γ a) ≡ content_after (kind_of c) s.disk c a
 

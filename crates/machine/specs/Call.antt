@@ -2,7 +2,6 @@
 -- definitions.
 use Rattle.std.specs.Prelude.{List, ℕ, ◌/◌, ◌%◌, ◌^◌}
 use Rattle.std.specs.Borrow.{Bor}
-use Rattle.memory.specs.Memory.{Settings, settings_of}
 use Rattle.machine.specs.Command.{Box, Command, Outcome, box_of, command_of, outcome_of}
 use Rattle.machine.specs.Format.{FormatOutcome, format_outcome_of}
 use Rattle.machine.specs.Query.{Query, QueryOutcome, query_of, query_outcome_of}
@@ -19,9 +18,6 @@ command_at kind block time value content proof answer = command_of kind block ti
 
 abbrev pub outcome_at : ℕ → ByteSlice → ByteSlice → ByteSlice → Outcome
 outcome_at number memory disk answer = outcome_of number memory.now disk.now answer.now
-
-abbrev pub settings_at : ℕ → ByteSlice → ByteSlice → Settings
-settings_at groups salt serial = settings_of groups salt.now serial.now
 
 abbrev pub format_outcome_at : ℕ → ByteSlice → ByteSlice → FormatOutcome
 format_outcome_at number memory disk = format_outcome_of number memory.now disk.now

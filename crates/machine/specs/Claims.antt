@@ -2,18 +2,17 @@
 -- proofs/Theorems.antt. That a step comes to an answer for every box and command needs no claim: step is a function.
 use Rattle.std.specs.Prelude.{◌≡◌, true, false, List, ◌∷◌, ◌++◌, ℕ, ◌≤◌, ◌<◌, length}
 use Rattle.octets.specs.Part.{AreBytes, repeated}
-use Rattle.octets.specs.Number.{bytes}
-use Rattle.lockpage.specs.Geometry.{Geometry, base, present}
+use Rattle.lockpage.specs.Geometry.{Geometry, base}
 use Rattle.lockpage.specs.Size.{page_size}
 use Rattle.lockpage.specs.Page.{blank_entry, entry_at}
 use Rattle.addressing.specs.Map.{disk_size, data_blocks, group_of, place_of, physical}
 use Rattle.disk.specs.Disk.{block}
-use Rattle.memory.specs.Layout.{memory_size, count_size}
-use Rattle.memory.specs.Memory.{Settings, salt, count, groups, none}
+use Rattle.memory.specs.Layout.{memory_size}
+use Rattle.memory.specs.Memory.{groups, none}
 use Rattle.memory.specs.Claims.{Reads}
 use Rattle.validity.specs.Valid.{valid}
 use Rattle.machine.specs.Command.{Box, Command, kind_of, tag_size, proof_size, answer_size}
-use Rattle.machine.specs.Tag.{group_number_size, tag_message, current_page}
+use Rattle.machine.specs.Tag.{tag_message, current_page}
 use Rattle.machine.specs.Question.{Question, Put, question3, questions, first_no, HasYes, AllYes}
 use Rattle.machine.specs.Step.{step, Accepted}
 use Rattle.machine.specs.Format.{format_questions, format}
@@ -28,14 +27,6 @@ pub record PapersBufferSizes : Type 0 where
   pub answer : answer_size base ≡ 544
   pub message : (m : List ℕ) (g : ℕ) (page : List ℕ) → length m ≡ memory_size base → length page ≡ page_size base
       → length (tag_message base m g page) ≡ 556
-  -- and no serial is in it
-  pub no_serial : (m : List ℕ) (g : ℕ) (page : List ℕ)
-      → tag_message base m g page ≡ salt m ++ (bytes group_number_size g ++ (bytes count_size (count m g) ++ page))
-
--- document 02, Q-8: "the tag's message, 572 bytes"
-unfoldable pub PapersPresentMessage : Type 0
-PapersPresentMessage = (m : List ℕ) (g : ℕ) (page : List ℕ) → length m ≡ memory_size present → length page ≡ page_size present
-    → length (tag_message present m g page) ≡ 572
 
 -- ---- questions and bytes
 
@@ -137,19 +128,18 @@ module _ (γ : Geometry) where
 
   -- ---- formatting
 
-  pub record Formats (s : Box) (f : Settings) : Type 0 where
+  pub record Formats (s : Box) (g : ℕ) (salt : List ℕ) : Type 0 where
     -- its number is that of the first no, and a refusal alters nothing
-    pub number : (format γ s f).number ≡ first_no (format_questions γ s f)
-    pub refused : ((format γ s f).number ≡ 0 → ⊥) → (format γ s f).box ≡ s
-    -- it gives a valid box with the salt, G and the serial, counts and last time 0 and none held; each block has the blank entry, with
-    -- which it is free; and it "touches no data block"
-    pub valid : (format γ s f).number ≡ 0 → ValidBox (format γ s f).box
-    pub reads : (format γ s f).number ≡ 0
-        → Reads γ (format γ s f).box.memory f.salt (λ k. 0) 0 f.groups none 0 (repeated (page_size γ) 0) f.serial
-    pub blank : (format γ s f).number ≡ 0 → (a : ℕ) → a < data_blocks γ f.groups
-        → entry_at (current_page γ (format γ s f).box (group_of γ a)) (place_of γ a) ≡ blank_entry
-    pub untouched : (a : ℕ) → block γ (format γ s f).box.disk (physical γ a) ≡ block γ s.disk (physical γ a)
-    pub bytes : ByteBox s → AreBytes f.salt → AreBytes f.serial → ByteBox (format γ s f).box
+    pub number : (format γ s g salt).number ≡ first_no (format_questions γ s g salt)
+    pub refused : ((format γ s g salt).number ≡ 0 → ⊥) → (format γ s g salt).box ≡ s
+    -- it gives a valid box with the salt and G, counts and last time 0 and none held; each block has the blank entry, with which it is
+    -- free; and it "touches no data block"
+    pub valid : (format γ s g salt).number ≡ 0 → ValidBox (format γ s g salt).box
+    pub reads : (format γ s g salt).number ≡ 0 → Reads γ (format γ s g salt).box.memory salt (λ k. 0) 0 g none 0 (repeated (page_size γ) 0)
+    pub blank : (format γ s g salt).number ≡ 0 → (a : ℕ) → a < data_blocks γ g
+        → entry_at (current_page γ (format γ s g salt).box (group_of γ a)) (place_of γ a) ≡ blank_entry
+    pub untouched : (a : ℕ) → block γ (format γ s g salt).box.disk (physical γ a) ≡ block γ s.disk (physical γ a)
+    pub bytes : ByteBox s → AreBytes salt → ByteBox (format γ s g salt).box
 
   unfoldable pub FormattingFormats : Type 0
-  FormattingFormats = (s : Box) (f : Settings) → Formats s f
+  FormattingFormats = (s : Box) (g : ℕ) (salt : List ℕ) → Formats s g salt

@@ -12,7 +12,7 @@ use Rattle.lockpage.specs.Page.{entry_at}
 use Rattle.addressing.specs.Map.{disk_size, group_of, physical}
 use Rattle.disk.specs.Disk.{block}
 use Rattle.memory.specs.Layout.{memory_size, salt_size}
-use Rattle.memory.specs.Memory.{settings_of, last_time, held, none}
+use Rattle.memory.specs.Memory.{last_time, held, none}
 use Rattle.machine.specs.Command.{Box, Command, box_of, answer_size}
 use Rattle.machine.specs.Tag.{tagged, current_page, current_entry}
 use Rattle.machine.specs.Effect.{state_place}
@@ -49,7 +49,7 @@ asking now = query_of (0 ∷ 0 ∷ 0 ∷ 0 ∷ 1 ∷ 0 ∷ 0 ∷ 0 ∷ 0 ∷ 0 �
 
 -- a formatted box of one group, its salt and data zeros
 unfoldable pub formatted_box : Box
-formatted_box = (format base (box_of (repeated (memory_size base) 0) (repeated (disk_size base 1) 0)) (settings_of 1 (repeated salt_size 0) [])).box
+formatted_box = (format base (box_of (repeated (memory_size base) 0) (repeated (disk_size base 1) 0)) 1 (repeated salt_size 0)).box
 
 -- lock 500 is written to block 0 at 1000
 abbrev pub writing : Command

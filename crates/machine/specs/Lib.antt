@@ -15,7 +15,6 @@ pub mod Protection
 pub mod NotFree
 pub mod Expiry
 pub mod Shortcuts
-pub mod Serial
 pub mod Leaving
 pub mod EdgeValues
 pub mod Example

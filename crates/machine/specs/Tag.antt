@@ -1,5 +1,5 @@
--- The tag of a page and a group's current page, after document 01, "Tag" and "Controller memory", and document 02, Q-8. Assumes nothing:
--- these are definitions.
+-- The tag of a page and a group's current page, after document 01, "Tag" and "Controller memory". Assumes nothing: these are
+-- definitions.
 use Rattle.std.specs.Prelude.{true, false, List, ◌++◌, ℕ, ◌+◌, eqb}
 use Rattle.octets.specs.Number.{bytes}
 use Rattle.lockpage.specs.Geometry.{Geometry}
@@ -9,7 +9,7 @@ use Rattle.lockpage.specs.Page.{entry_at}
 use Rattle.addressing.specs.Map.{group_of, place_of, page_block}
 use Rattle.disk.specs.Disk.{block}
 use Rattle.memory.specs.Layout.{salt_size, count_size}
-use Rattle.memory.specs.Memory.{salt, count, held, held_page, serial}
+use Rattle.memory.specs.Memory.{salt, count, held, held_page}
 use Rattle.blake3.specs.Blake3.{digest}
 use Rattle.machine.specs.Command.{Box}
 
@@ -17,15 +17,14 @@ use Rattle.machine.specs.Command.{Box}
 abbrev pub group_number_size : ℕ
 group_number_size = 8
 
--- γ is the box's geometry
+-- γ is the box's geometry. The message takes it as well, though in every box the salt and the counts stand at the same place
 module _ (γ : Geometry) where
-  -- "salt, group in 8 bytes, count in 4 bytes, page": the salt and the group's count are those of memory m, and so is the serial, which
-  -- goes "in front of the salt in the tag's message" (document 02, Q-8); in a box without one it is nothing
+  -- "salt, group in 8 bytes, count in 4 bytes, page": the salt and the group's count are those of memory m
   unfoldable pub tag_message : List ℕ → ℕ → List ℕ → List ℕ
-  tag_message m g page = serial γ m ++ (salt m ++ (bytes group_number_size g ++ (bytes count_size (count m g) ++ page)))
+  tag_message m g page = salt m ++ (bytes group_number_size g ++ (bytes count_size (count m g) ++ page))
 
   abbrev pub message_size : ℕ
-  message_size = γ.serial_size + (salt_size + (group_number_size + (count_size + page_size γ)))
+  message_size = salt_size + (group_number_size + (count_size + page_size γ))
 
   -- "The tag is the 32-byte BLAKE3 hash" of it
   unfoldable pub tag : List ℕ → ℕ → List ℕ → List ℕ

@@ -10,9 +10,8 @@ use Rattle.octets.proofs.PartLaw.{part_all}
 use Rattle.octets.proofs.RepeatedLaw.{repeated_length}
 use Rattle.octets.proofs.ReplacedLaw.{replaced_all, part_copied, all_copied}
 use Rattle.lockpage.specs.Geometry.{Geometry, Proper}
-use Rattle.memory.specs.Layout.{memory_size, salt_start, salt_size, count_size, count_start, groups_start, held_start, byte_size, serial_start}
-use Rattle.memory.specs.Memory.{Settings, salt, count, none, serial, with_salt, with_count, with_groups, with_held, with_serial, formatted_memory}
-use Rattle.memory.proofs.FieldLaw.{salt_length}
+use Rattle.memory.specs.Layout.{memory_size, salt_start, salt_size, count_size, count_start, groups_start, held_start, byte_size}
+use Rattle.memory.specs.Memory.{salt, count, none, with_salt, with_count, with_groups, with_held, formatted_memory}
 
 -- a count, at its place
 pub count_loaded : (m : List ℕ) (r at g : ℕ) → at ≡ count_start g → r ≡ number_at m at count_size → r ≡ count m g
@@ -34,22 +33,7 @@ module _ {γ : Geometry} (σ : Proper γ) where
     unfolding with_salt
     salt_stored s l e = all_copied m s r salt_start salt_size l e
 
-    pub serial_copied : (buffer : List ℕ) → length buffer ≡ γ.serial_size → r ≡ replaced buffer 0 (part m (serial_start γ) γ.serial_size)
-        → r ≡ serial γ m
-    unfolding serial
-    serial_copied buffer s e = part_copied m buffer r (serial_start γ) γ.serial_size s (omega arith) e
-
-  -- a salt that goes by a buffer: from the memory, and into it
-  pub salt_fetched : (m b out buffer r : List ℕ) → length m ≡ memory_size γ → length b ≡ salt_size → length out ≡ salt_size
-      → buffer ≡ replaced b 0 (part m salt_start salt_size) → r ≡ replaced out 0 (part buffer 0 salt_size) → r ≡ salt m
-  salt_fetched m b out buffer r size lb lo eb er =
-      let same : buffer ≡ salt m = salt_copied m buffer size b lb eb in
-      let long = salt_length σ m size in
-      er
-      ∙ ap (λ (x : List ℕ). replaced out 0 (part x 0 salt_size)) same
-      ∙ ap (replaced out 0) (part_all (salt m) salt_size (omega arith))
-      ∙ replaced_all out (salt m) (long ∙ sym lo)
-
+  -- a salt that goes by a buffer
   pub salt_buffered : (m b s buffer r : List ℕ) → length m ≡ memory_size γ → length b ≡ salt_size → length s ≡ salt_size
       → buffer ≡ replaced b 0 (part s 0 salt_size) → r ≡ replaced m salt_start (part buffer 0 salt_size) → r ≡ with_salt m s
   salt_buffered m b s buffer r size lb ls eb er =
@@ -58,20 +42,12 @@ module _ {γ : Geometry} (σ : Proper γ) where
       eb ∙ ap (replaced b 0) all ∙ replaced_all b s (ls ∙ sym lb) in
       salt_stored m r size buffer (ap length same ∙ ls) er ∙ ap (with_salt m) same
 
-  pub serial_stored : (m r z : List ℕ) → length z ≡ γ.serial_size → r ≡ replaced m (serial_start γ) (part z 0 γ.serial_size)
-      → r ≡ with_serial γ m z
-  unfolding with_serial
-  serial_stored m r z l e = all_copied m z r (serial_start γ) γ.serial_size l e
-
   -- the memory of formatting, stored field after field
-  pub format_stored : (m a b c d r : List ℕ) (f : Settings) → length m ≡ memory_size γ → a ≡ replaced m 0 (repeated (memory_size γ) 0)
-      → b ≡ with_salt a f.salt → c ≡ with_number b (groups_start γ) byte_size f.groups → d ≡ with_number c (held_start γ) byte_size none
-      → r ≡ with_serial γ d f.serial → r ≡ formatted_memory γ f
+  pub format_stored : (m a b c r : List ℕ) (g : ℕ) (s : List ℕ) → length m ≡ memory_size γ → a ≡ replaced m 0 (repeated (memory_size γ) 0)
+      → b ≡ with_salt a s → c ≡ with_number b (groups_start γ) byte_size g → r ≡ with_number c (held_start γ) byte_size none → r ≡ formatted_memory γ g s
   unfolding formatted_memory with_groups with_held
-  format_stored m a b c d r f size ea eb ec ed er =
+  format_stored m a b c r g s size ea eb ec er =
       let zeros : a ≡ repeated (memory_size γ) 0 = ea ∙ replaced_all m (repeated (memory_size γ) 0) (repeated_length (memory_size γ) 0 ∙ sym size) in
       er
-      ∙ ap (λ (x : List ℕ). with_serial γ x f.serial)
-      (ed
       ∙ ap (λ (x : List ℕ). with_number x (held_start γ) byte_size none)
-      (ec ∙ ap (λ (x : List ℕ). with_number x (groups_start γ) byte_size f.groups) (eb ∙ ap (λ (x : List ℕ). with_salt x f.salt) zeros)))
+      (ec ∙ ap (λ (x : List ℕ). with_number x (groups_start γ) byte_size g) (eb ∙ ap (λ (x : List ℕ). with_salt x s) zeros))

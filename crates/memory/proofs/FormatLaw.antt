@@ -1,7 +1,7 @@
 -- The memory of formatting: what its fields read. Assumes nothing.
 use mathlib.Core.Path.{◌≡◌, ◌∙◌}
 use mathlib.Core.List.{List}
-use Prim.Native.Nat.{ℕ, ◌+◌, ◌-◌, ◌≤◌}
+use Prim.Native.Nat.{ℕ, ◌+◌, ◌-◌, ◌≤◌, ◌<◌}
 use native.Mathlib.Omega.{arith}
 use lib.ListN.{length}
 use Rattle.octets.specs.Part.{part, repeated}
@@ -9,13 +9,11 @@ use Rattle.octets.proofs.RepeatedLaw.{repeated_length, repeated_part}
 use Rattle.octets.proofs.NumberLaw.{number_at_zeros}
 use Rattle.lockpage.specs.Geometry.{Geometry, Proper}
 use Rattle.lockpage.specs.Size.{page_size}
-use Rattle.memory.specs.Layout.{memory_size, count_start, count_size, time_start, time_size, update_count_start, byte_size, reserved_start, reserved_size}
+use Rattle.memory.specs.Layout.{memory_size, salt_size, count_start, count_size, time_start, time_size, update_count_start, byte_size, reserved_start, reserved_size}
 use Rattle.memory.specs.Layout.{page_start}
-use Rattle.memory.specs.Memory.{Settings, count, last_time, none, update_count, held_page, with_salt, with_groups, with_held, formatted_memory}
-use Rattle.memory.specs.Ready.{Storable}
+use Rattle.memory.specs.Memory.{count, last_time, none, update_count, held_page, with_salt, with_groups, formatted_memory}
 use Rattle.memory.specs.Claims.{Reads}
-use Rattle.memory.proofs.PlaceLaw.{salt_in, salt_rest, groups_in, held_in, serial_in}
-use Rattle.memory.proofs.FieldLaw.{salt_set, groups_set, held_set, serial_set}
+use Rattle.memory.proofs.FieldLaw.{salt_in, salt_rest, groups_in, held_in, salt_set, groups_set, held_set}
 
 -- γ is any proper geometry
 module _ {γ : Geometry} (σ : Proper γ) where
@@ -31,62 +29,42 @@ module _ {γ : Geometry} (σ : Proper γ) where
   unfolding blank
   blank_part at k h = repeated_part (memory_size γ) 0 at k h
 
-  module _ (f : Settings) (ready : Storable γ f) where
-    -- the fields before the serial, one after the other
-    salted : List ℕ
-    salted = with_salt blank f.salt
-
-    grouped : List ℕ
-    grouped = with_groups γ salted f.groups
-
-    unheld : List ℕ
-    unheld = with_held γ grouped none
-
-    pub formatted_reads : Reads γ (formatted_memory γ f) f.salt (λ k. 0) 0 f.groups none 0 (repeated (page_size γ) 0) f.serial
-    unfolding formatted_memory blank salted grouped unheld count last_time update_count held_page
+  module _ (g : ℕ) (s : List ℕ) (small : g < 256) (size : length s ≡ salt_size) where
+    pub formatted_reads : Reads γ (formatted_memory γ g s) s (λ k. 0) 0 g none 0 (repeated (page_size γ) 0)
+    unfolding formatted_memory blank count last_time update_count held_page
     formatted_reads =
-        let a = salt_set σ blank blank_size f.salt ready.salt_size_is in
-        let b = groups_set σ salted a.size f.groups ready.groups_byte in
-        let c = held_set σ grouped b.size none (omega arith) in
-        let d = serial_set σ unheld c.size f.serial ready.serial_size in
+        let a = salt_set σ blank blank_size s size in
+        let b = groups_set σ (with_salt blank s) a.size g small in
+        let c = held_set σ (with_groups γ (with_salt blank s) g) b.size none (omega arith) in
         record {
-          size = d.size;
-          salt = d.salt ∙ c.salt ∙ b.salt ∙ a.salt;
+          size = c.size;
+          salt = c.salt ∙ b.salt ∙ a.salt;
           count =
               λ k h.
-              d.count k h ∙ c.count k h ∙ b.count k h ∙ a.count k h
+              c.count k h ∙ b.count k h ∙ a.count k h
               ∙ number_at_zeros blank (count_start k) count_size (blank_part (count_start k) count_size (omega arith));
-          time =
-              d.time ∙ c.time ∙ b.time ∙ a.time
-              ∙ number_at_zeros blank (time_start γ) time_size (blank_part (time_start γ) time_size (omega arith));
-          groups = d.groups ∙ c.groups ∙ b.groups;
-          held = d.held ∙ c.held;
+          time = c.time ∙ b.time ∙ a.time ∙ number_at_zeros blank (time_start γ) time_size (blank_part (time_start γ) time_size (omega arith));
+          groups = c.groups ∙ b.groups;
+          held = c.held;
           updates =
-              d.updates ∙ c.updates ∙ b.updates ∙ a.updates
+              c.updates ∙ b.updates ∙ a.updates
               ∙ number_at_zeros blank (update_count_start γ) byte_size (blank_part (update_count_start γ) byte_size (omega arith));
-          page = d.page ∙ c.page ∙ b.page ∙ a.page ∙ blank_part (page_start γ) (page_size γ) (omega arith);
-          serial = d.serial;
+          page = c.page ∙ b.page ∙ a.page ∙ blank_part (page_start γ) (page_size γ) (omega arith);
         }
 
-    -- its counts from group g on, and the byte that is 0, are zeros
-    pub formatted_zeros : (g : ℕ) → g ≤ γ.most_groups
-        → (part (formatted_memory γ f) (count_start g) (time_start γ - count_start g) ≡ repeated (time_start γ - count_start g) 0)
-        × (part (formatted_memory γ f) (reserved_start γ) reserved_size ≡ repeated reserved_size 0)
-    unfolding formatted_memory blank salted grouped unheld
-    formatted_zeros g most =
-        let a = salt_in σ blank blank_size f.salt ready.salt_size_is in
-        let b = groups_in σ salted (a.size ∙ blank_size) f.groups in
-        let c = held_in σ grouped (b.size ∙ a.size ∙ blank_size) none in
-        let d = serial_in σ unheld (c.size ∙ b.size ∙ a.size ∙ blank_size) f.serial ready.serial_size in
-        let rest : ℕ = time_start γ - count_start g in (
-          d.before (count_start g) rest (omega arith)
-              ∙ c.front (count_start g) rest (omega arith)
-              ∙ b.front (count_start g) rest (omega arith)
-              ∙ salt_rest σ blank blank_size f.salt ready.salt_size_is (count_start g) rest (omega arith)
-              ∙ blank_part (count_start g) rest (omega arith),
-          d.before (reserved_start γ) reserved_size (omega arith)
-              ∙ c.reserved
-              ∙ b.reserved
-              ∙ a.back (reserved_start γ) reserved_size (omega arith)
-              ∙ blank_part (reserved_start γ) reserved_size (omega arith),
-        )
+  -- its counts from group g on, and the byte that is 0, are zeros
+  pub formatted_zeros : (g : ℕ) (s : List ℕ) → length s ≡ salt_size → g ≤ γ.most_groups
+      → (part (formatted_memory γ g s) (count_start g) (time_start γ - count_start g) ≡ repeated (time_start γ - count_start g) 0)
+      × (part (formatted_memory γ g s) (reserved_start γ) reserved_size ≡ repeated reserved_size 0)
+  unfolding formatted_memory blank
+  formatted_zeros g s size most =
+      let a = salt_in σ blank blank_size s size in
+      let b = groups_in σ (with_salt blank s) (a.size ∙ blank_size) g in
+      let c = held_in σ (with_groups γ (with_salt blank s) g) (b.size ∙ a.size ∙ blank_size) none in
+      let rest : ℕ = time_start γ - count_start g in (
+        c.front (count_start g) rest (omega arith)
+            ∙ b.front (count_start g) rest (omega arith)
+            ∙ salt_rest σ blank blank_size s size (count_start g) rest (omega arith)
+            ∙ blank_part (count_start g) rest (omega arith),
+        c.reserved ∙ b.reserved ∙ a.back (reserved_start γ) reserved_size (omega arith) ∙ blank_part (reserved_start γ) reserved_size (omega arith),
+      )

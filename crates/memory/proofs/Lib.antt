@@ -1,5 +1,4 @@
 -- The laws that proofs here and in the crates above cite, and the theorems of specs/Claims.antt.
-pub mod PlaceLaw
 pub mod FieldLaw
 pub mod FormatLaw
 pub mod RangeLaw

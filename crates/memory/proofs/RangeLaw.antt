@@ -9,9 +9,9 @@ use Rattle.octets.proofs.NumberLaw.{with_number_are, number_at_small}
 use Rattle.lockpage.specs.Geometry.{Geometry, Proper}
 use Rattle.lockpage.specs.Size.{page_size}
 use Rattle.memory.specs.Layout.{memory_size, salt_start, counts_start, count_size, time_start, time_size, groups_start, held_start, update_count_start, byte_size}
-use Rattle.memory.specs.Layout.{page_start, serial_start}
-use Rattle.memory.specs.Memory.{Settings, groups, none, held_page, with_salt, with_count, with_no_counts, with_last_time, with_groups, with_held, with_update_count}
-use Rattle.memory.specs.Memory.{with_held_page, with_serial, holding, holding_none, formatted_memory}
+use Rattle.memory.specs.Layout.{page_start}
+use Rattle.memory.specs.Memory.{groups, none, held_page, with_salt, with_count, with_no_counts, with_last_time, with_groups, with_held, with_update_count}
+use Rattle.memory.specs.Memory.{with_held_page, holding, holding_none, formatted_memory}
 
 -- γ is any proper geometry
 module _ {γ : Geometry} (σ : Proper γ) where
@@ -61,10 +61,6 @@ module _ {γ : Geometry} (σ : Proper γ) where
     unfolding with_held_page
     with_held_page_bytes p c = below_replaced 256 m (page_start γ) p b c
 
-    pub with_serial_bytes : (z : List ℕ) → AreBytes z → AreBytes (with_serial γ m z)
-    unfolding with_serial
-    with_serial_bytes z c = below_replaced 256 m (serial_start γ) z b c
-
   pub holding_bytes : (m : List ℕ) → AreBytes m → (g n : ℕ) (p : List ℕ) → AreBytes p → AreBytes (holding γ m g n p)
   unfolding holding
   holding_bytes m b g n p c =
@@ -74,12 +70,9 @@ module _ {γ : Geometry} (σ : Proper γ) where
   unfolding holding_none
   holding_none_bytes m b = holding_bytes m b none 0 (repeated (page_size γ) 0) (repeated_below 256 (page_size γ) 0 (omega arith))
 
-  pub formatted_bytes : (f : Settings) → AreBytes f.salt → AreBytes f.serial → AreBytes (formatted_memory γ f)
+  pub formatted_bytes : (g : ℕ) (s : List ℕ) → AreBytes s → AreBytes (formatted_memory γ g s)
   unfolding formatted_memory
-  formatted_bytes f c d =
-      let zeros : List ℕ = repeated (memory_size γ) 0 in
-      let salted : List ℕ = with_salt zeros f.salt in
-      let grouped : List ℕ = with_groups γ salted f.groups in
-      let of-salted = with_salt_bytes zeros (repeated_below 256 (memory_size γ) 0 (omega arith)) f.salt c in
-      let of-grouped = with_groups_bytes salted of-salted f.groups in
-      with_serial_bytes (with_held γ grouped none) (with_held_bytes grouped of-grouped none) f.serial d
+  formatted_bytes g s c =
+      let zeros = repeated_below 256 (memory_size γ) 0 (omega arith) in
+      let salted = with_salt_bytes (repeated (memory_size γ) 0) zeros s c in
+      with_held_bytes (with_groups γ (with_salt (repeated (memory_size γ) 0) s) g) (with_groups_bytes (with_salt (repeated (memory_size γ) 0) s) salted g) none

@@ -2,8 +2,7 @@
 use mathlib.Core.Path.{refl}
 use Rattle.lockpage.specs.Geometry.{Geometry, Proper}
 use Rattle.memory.specs.Claims.{PapersPlaces, PapersPresentPlaces, GetAfterSet, FormattedReads}
-use Rattle.memory.proofs.FieldLaw.{salt_set, count_set, counts_cleared, time_set, groups_set, held_set, updates_set, page_set, page_held}
-use Rattle.memory.proofs.FieldLaw.{page_dropped, serial_set}
+use Rattle.memory.proofs.FieldLaw.{salt_set, count_set, counts_cleared, time_set, groups_set, held_set, updates_set, page_set, page_held, page_dropped}
 use Rattle.memory.proofs.FormatLaw as F
 
 pub papers_places : PapersPlaces
@@ -18,7 +17,6 @@ papers_places =
       update_count_at = refl;
       reserved_at = (refl, refl);
       page_at = (refl, refl);
-      serial_at = (refl, refl);
       size = refl;
     }
 
@@ -34,7 +32,6 @@ papers_present_places =
       update_count_at = refl;
       reserved_at = (refl, refl);
       page_at = (refl, refl);
-      serial_at = (refl, refl);
       size = refl;
     }
 
@@ -54,7 +51,6 @@ module _ {γ : Geometry} (σ : Proper γ) where
         page_set = page_set σ m size;
         page_held = page_held σ m size;
         page_dropped = page_dropped σ m size;
-        serial_set = serial_set σ m size;
       }
 
   pub formatted_reads : FormattedReads γ

@@ -56,9 +56,5 @@ module _ (γ : Geometry) where
   abbrev pub page_start : ℕ
   page_start = reserved_start + reserved_size
 
-  -- document 02, Q-8: "Sixteen bytes of serial, appended to the memory"; at base there is none
-  abbrev pub serial_start : ℕ
-  serial_start = page_start + page_size γ
-
   abbrev pub memory_size : ℕ
-  memory_size = serial_start + γ.serial_size
+  memory_size = page_start + page_size γ

@@ -6,7 +6,7 @@ use Rattle.octets.specs.Number.{number_at, with_number}
 use Rattle.lockpage.specs.Geometry.{Geometry}
 use Rattle.lockpage.specs.Size.{page_size}
 use Rattle.memory.specs.Layout.{memory_size, salt_start, salt_size, counts_start, count_size, count_start, time_start, time_size, groups_start, held_start}
-use Rattle.memory.specs.Layout.{update_count_start, byte_size, page_start, serial_start}
+use Rattle.memory.specs.Layout.{update_count_start, byte_size, page_start}
 
 -- ---- the fields whose place is the same in every box
 
@@ -31,15 +31,6 @@ none = 255
 abbrev pub most_updates : ℕ
 most_updates = 63
 
--- what a box is formatted with: "Formatting takes G and a salt"; document 02, Q-8: and a serial
-pub record Settings : Type 0 where
-  pub groups : ℕ
-  pub salt : List ℕ
-  pub serial : List ℕ
-
-abbrev pub settings_of : ℕ → List ℕ → List ℕ → Settings
-settings_of groups salt serial = record { groups = groups; salt = salt; serial = serial }
-
 -- γ is the box's geometry
 module _ (γ : Geometry) where
   -- ---- the others, read
@@ -62,9 +53,6 @@ module _ (γ : Geometry) where
   unfoldable pub held_page : List ℕ → List ℕ
   held_page m = part m (page_start γ) (page_size γ)
 
-  unfoldable pub serial : List ℕ → List ℕ
-  serial m = part m (serial_start γ) γ.serial_size
-
   -- ---- replaced
 
   -- "all counts 0"
@@ -86,9 +74,6 @@ module _ (γ : Geometry) where
   unfoldable pub with_held_page : List ℕ → List ℕ → List ℕ
   with_held_page m p = replaced m (page_start γ) p
 
-  unfoldable pub with_serial : List ℕ → List ℕ → List ℕ
-  with_serial m z = replaced m (serial_start γ) z
-
   -- ---- several at once
 
   -- page p of group g, updated n times, "becomes the held one"
@@ -99,7 +84,6 @@ module _ (γ : Geometry) where
   unfoldable pub holding_none : List ℕ → List ℕ
   holding_none m = holding m none 0 (repeated (page_size γ) 0)
 
-  -- formatting "stores both", G and the salt, "sets .. held to 255 and the rest of the memory to 0"; document 02, Q-8: the serial is
-  -- "given at formatting"
-  unfoldable pub formatted_memory : Settings → List ℕ
-  formatted_memory f = with_serial (with_held (with_groups (with_salt (repeated (memory_size γ) 0) f.salt) f.groups) none) f.serial
+  -- formatting "stores both", G and the salt, "sets .. held to 255 and the rest of the memory to 0"
+  unfoldable pub formatted_memory : ℕ → List ℕ → List ℕ
+  formatted_memory g s = with_held (with_groups (with_salt (repeated (memory_size γ) 0) s) g) none

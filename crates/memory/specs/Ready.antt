@@ -3,7 +3,6 @@ use Rattle.std.specs.Prelude.{◌≡◌, List, ℕ, ◌<◌, length}
 use Rattle.lockpage.specs.Geometry.{Geometry}
 use Rattle.lockpage.specs.Size.{page_size}
 use Rattle.memory.specs.Layout.{memory_size, salt_size}
-use Rattle.memory.specs.Memory.{Settings}
 
 -- γ is the box's geometry
 module _ (γ : Geometry) where
@@ -17,13 +16,8 @@ module _ (γ : Geometry) where
     pub count : HasCount m g
     pub page_size_is : length page ≡ page_size γ
 
-  -- what a box is formatted with can be stored: G is one byte, salt and serial are as long as theirs
-  pub record Storable (f : Settings) : Type 0 where
-    pub groups_byte : f.groups < 256
-    pub salt_size_is : length f.salt ≡ salt_size
-    pub serial_size : length f.serial ≡ γ.serial_size
-
-  -- formatting
-  pub record FormatReady (m : List ℕ) (f : Settings) : Type 0 where
+  -- formatting: G is one byte
+  pub record FormatReady (m : List ℕ) (groups : ℕ) (salt : List ℕ) : Type 0 where
     pub size : length m ≡ memory_size γ
-    pub storable : Storable f
+    pub groups_byte : groups < 256
+    pub salt_size_is : length salt ≡ salt_size

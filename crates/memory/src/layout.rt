@@ -28,11 +28,7 @@ pub const RESERVED_SIZE: usize = 1;
 
 pub const PAGE_START: usize = RESERVED_START + RESERVED_SIZE;
 
-pub const SERIAL_START: usize = PAGE_START + lockpage::PAGE_SIZE;
-
-pub const SERIAL_SIZE: usize = 16;
-
-pub const MEMORY_SIZE: usize = SERIAL_START + SERIAL_SIZE;
+pub const MEMORY_SIZE: usize = PAGE_START + lockpage::PAGE_SIZE;
 
 // In the place of a held group: no page is held.
 pub const NONE: u8 = 255;

@@ -1,10 +1,10 @@
-// The controller memory: 824 bytes that the caller lends. Its fields but the held page, and the memory of formatting. The
+// The controller memory: 808 bytes that the caller lends. Its fields but the held page, and the memory of formatting. The
 // contracts cite specs/.
 ghost use Rattle.std.specs.Prelude.{◌≡◌, length};
 ghost use Rattle.octets.specs.Part.{equal};
 ghost use Rattle.lockpage.specs.Geometry.{present};
 ghost use Rattle.memory.specs.Layout.{memory_size, salt_size};
-ghost use Rattle.memory.specs.Memory.{settings_of, last_time, update_count, with_salt, with_count, with_no_counts, with_last_time, with_serial, formatted_memory};
+ghost use Rattle.memory.specs.Memory.{last_time, update_count, with_salt, with_count, with_no_counts, with_last_time, formatted_memory};
 ghost use Rattle.memory.specs.Memory as M;
 ghost use Rattle.memory.specs.Ready.{HasCount, FormatReady};
 
@@ -82,22 +82,12 @@ pub fn clear_counts(memory: &mut [u8])
     );
 }
 
-// Copies the salt into out. It goes by a buffer, as in set_salt.
+// Copies the salt into out.
 pub fn copy_salt(memory: &[u8], out: &mut [u8])
     requires { (length memory.now ≡ memory_size present) × (length out.old ≡ salt_size) }
     ensures { out.new ≡ M.salt memory.now }
 {
-    let mut bytes = [0u8; layout::SALT_SIZE];
-    octets::copy(memory, layout::SALT_START, &mut bytes, 0, layout::SALT_SIZE);
-    octets::copy(&bytes, 0, out, 0, layout::SALT_SIZE);
-}
-
-// Copies the serial into out.
-pub fn copy_serial(memory: &[u8], out: &mut [u8])
-    requires { (length memory.now ≡ memory_size present) × (length out.old ≡ present.serial_size) }
-    ensures { out.new ≡ M.serial present memory.now }
-{
-    octets::copy(memory, layout::SERIAL_START, out, 0, layout::SERIAL_SIZE);
+    octets::copy(memory, layout::SALT_START, out, 0, layout::SALT_SIZE);
 }
 
 // Whether the salt is the one given.
@@ -119,22 +109,13 @@ pub fn set_salt(memory: &mut [u8], salt: &[u8])
     octets::copy(&bytes, 0, memory, layout::SALT_START, layout::SALT_SIZE);
 }
 
-// Sets the serial.
-pub fn set_serial(memory: &mut [u8], serial: &[u8])
-    requires { (length memory.old ≡ memory_size present) × (length serial.now ≡ present.serial_size) }
-    ensures { memory.new ≡ with_serial present memory.old serial.now }
-{
-    octets::copy(serial, 0, memory, layout::SERIAL_START, layout::SERIAL_SIZE);
-}
-
 // Makes the memory that of a box just formatted.
-pub fn format(memory: &mut [u8], groups: u32, salt: &[u8], serial: &[u8])
-    requires { FormatReady present memory.old (settings_of groups salt.now serial.now) }
-    ensures { memory.new ≡ formatted_memory present (settings_of groups salt.now serial.now) }
+pub fn format(memory: &mut [u8], groups: u32, salt: &[u8])
+    requires { FormatReady present memory.old groups salt.now }
+    ensures { memory.new ≡ formatted_memory present groups salt.now }
 {
     octets::fill(memory, 0, layout::MEMORY_SIZE, 0);
     set_salt(memory, salt);
     octets::store_u8(memory, layout::GROUPS_START, groups as u8);
     octets::store_u8(memory, layout::HELD_START, layout::NONE);
-    set_serial(memory, serial);
 }

@@ -1,7 +1,6 @@
-// The migration of an old box's memory to the present one, with the serial that it is given. The contract of `migrate`, which has no
-// precondition, fixes its number and every byte of the buffer by the definitions of migration_machine.
+// The migration of an old box's memory to the present one. The contract of `migrate`, which has no precondition, fixes its number and
+// every byte of the buffer by the definitions of migration_machine.
 ghost use Rattle.std.specs.Prelude.{◌≡◌};
-ghost use Rattle.octets.specs.Part.{repeated};
 ghost use Rattle.lockpage.specs.Geometry.{base, present};
 ghost use Rattle.migration_machine.specs.Migrate.{migrated, migrate as migration, migration_at};
 ghost use Rattle.migration.specs.Ready.{LayOutReady};
@@ -11,15 +10,15 @@ use memory::layout;
 // The most groups of an old box.
 const OLD_MOST_GROUPS: u32 = 16;
 
-// Where the last time stands in an old memory, behind the counts. All behind it stands as in a present one, up to the serial.
+// Where the last time stands in an old memory, behind the counts. All behind it stands as in a present one.
 const OLD_TIME_START: usize = layout::COUNTS_START + layout::COUNT_SIZE * OLD_MOST_GROUPS as usize;
 
-const OLD_MEMORY_SIZE: usize = OLD_TIME_START + (layout::SERIAL_START - layout::TIME_START);
+const OLD_MEMORY_SIZE: usize = OLD_TIME_START + (layout::MEMORY_SIZE - layout::TIME_START);
 
-// Lays an old memory out as a present one with a serial of zeros, in a buffer of zeros.
+// Lays an old memory out as a present one, in a buffer of zeros.
 fn lay_out(old: &[u8], new: &mut [u8])
     requires { LayOutReady old.now new.old }
-    ensures { new.new ≡ migrated base present.most_groups (repeated present.serial_size 0) old.now }
+    ensures { new.new ≡ migrated base present.most_groups old.now }
 {
     octets::copy(old, 0, new, 0, OLD_TIME_START);
     octets::copy(
@@ -27,15 +26,14 @@ fn lay_out(old: &[u8], new: &mut [u8])
         OLD_TIME_START,
         new,
         layout::TIME_START,
-        layout::SERIAL_START - layout::TIME_START,
+        layout::MEMORY_SIZE - layout::TIME_START,
     );
 }
 
 // Migrates an old memory into the buffer; where the number is not 0, no byte is changed. The old memory is judged by the new one, which is
 // valid if and only if the old one is, but for its groups.
-pub fn migrate(old: &[u8], serial: &[u8], memory: &mut [u8]) -> u32
-    ensures { migration_at result memory.exit
-        ≡ migration base present.most_groups old.now serial.now memory.old }
+pub fn migrate(old: &[u8], memory: &mut [u8]) -> u32
+    ensures { migration_at result memory.exit ≡ migration base present.most_groups old.now memory.old }
 {
     if old.len() != OLD_MEMORY_SIZE {
         return machine::MEMORY_INVALID;
@@ -51,10 +49,6 @@ pub fn migrate(old: &[u8], serial: &[u8], memory: &mut [u8]) -> u32
     if !validity::valid(&new) {
         return machine::MEMORY_INVALID;
     }
-    if serial.len() != layout::SERIAL_SIZE {
-        return machine::LENGTH_WRONG;
-    }
-    memory::set_serial(&mut new, serial);
     octets::copy(&new, 0, memory, 0, layout::MEMORY_SIZE);
     machine::ACCEPTED
 }

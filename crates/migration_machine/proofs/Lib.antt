@@ -1,13 +1,10 @@
 -- Laws that the theorems cite, and the theorems.
-pub mod CutLaw
 pub mod FieldLaw
-pub mod FormattedLaw
 pub mod ValidLaw
 pub mod MigrateLaw
 pub mod BoxLaw
 pub mod AskedLaw
 pub mod MovedLaw
-pub mod MatchedLaw
 pub mod EventLaw
 pub mod SearchLaw
 pub mod OrderLaw

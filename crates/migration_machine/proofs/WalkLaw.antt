@@ -26,52 +26,52 @@ use Rattle.versions_state.specs.Layout.{parts}
 use Rattle.versions_state.specs.State.{newest_bytes}
 use Rattle.recovery_machine.specs.Walk.{is_in_range, written_at, content_of, is_kept, goes_on, walk_from, walk}
 use Rattle.recovery_machine.specs.Recover.{recovery_of, result_size, recover_questions, counts, walked_records, recovered, recover}
+use Rattle.migration_machine.specs.Migrate.{Wider}
 use Rattle.migration_machine.specs.Promise.{moved_box}
-use Rattle.migration_machine.proofs.CutLaw.{Upgrade}
 use Rattle.migration_machine.proofs.BoxLaw.{current_entry_moves, question1_moves, question2_moves, question4_moves}
 
--- γ is the old box's geometry, and its memory is migrated to a wider box with serial z
-module _ {γ : Geometry} (σ : Proper γ) {n : ℕ} {z : List ℕ} (ω : Upgrade γ n z) (ρ : Range) (s : Box) (v : valid γ s.memory ≡ true) (point now : ℕ) where
-  entry_moves : (a : ℕ) → current_entry (widened γ n) (moved_box γ n z s) a ≡ current_entry γ s a
+-- γ is the old box's geometry, and the new one has n groups at most
+module _ {γ : Geometry} (σ : Proper γ) {n : ℕ} (ω : Wider γ n) (ρ : Range) (s : Box) (v : valid γ s.memory ≡ true) (point now : ℕ) where
+  entry_moves : (a : ℕ) → current_entry (widened γ n) (moved_box γ n s) a ≡ current_entry γ s a
   entry_moves a = current_entry_moves σ ω s (facts σ s.memory v).size a
 
   -- ---- the walk
 
-  kept_moves : (a : ℕ) → is_kept (widened γ n) ρ (moved_box γ n z s) point now a ≡ is_kept γ ρ s point now a
+  kept_moves : (a : ℕ) → is_kept (widened γ n) ρ (moved_box γ n s) point now a ≡ is_kept γ ρ s point now a
   unfolding is_kept
   kept_moves a = ap (λ (e : Entry). is_in_range ρ a && (not (is_free (state now e)) && leb (time_of_write e) point)) (entry_moves a)
 
   goes_moves : (walked : List ℕ) (parent a : ℕ)
-      → goes_on (widened γ n) ρ (moved_box γ n z s) point now walked parent a ≡ goes_on γ ρ s point now walked parent a
+      → goes_on (widened γ n) ρ (moved_box γ n s) point now walked parent a ≡ goes_on γ ρ s point now walked parent a
   unfolding goes_on
   goes_moves walked parent a =
       ap₂ (λ (b : Bool) (e : Entry). b && (leb parent (time_of_write e) && not (any walked (eqb a)))) (kept_moves a) (entry_moves a)
 
   walk_moves : (walked : List ℕ) (parent a k : ℕ)
-      → walk_from (widened γ n) ρ (moved_box γ n z s) point now walked parent a k ≡ walk_from γ ρ s point now walked parent a k
+      → walk_from (widened γ n) ρ (moved_box γ n s) point now walked parent a k ≡ walk_from γ ρ s point now walked parent a k
   unfolding walk_from pointer_read block block_start physical
   walk_moves walked parent a zero = refl
   walk_moves walked parent a (suc k) =
       let pointer = pointer_read γ (content_of γ s a) in
       ap₂ (λ (b : Bool) (rest : List ℕ). elim b [ true ↦ a ∷ rest | false ↦ [] ]) (goes_moves walked parent a)
-      (ap (λ (e : Entry). walk_from (widened γ n) ρ (moved_box γ n z s) point now (a ∷ walked) (time_of_write e) pointer k) (entry_moves a)
+      (ap (λ (e : Entry). walk_from (widened γ n) ρ (moved_box γ n s) point now (a ∷ walked) (time_of_write e) pointer k) (entry_moves a)
       ∙ walk_moves (a ∷ walked) (written_at γ s a) pointer k)
 
   -- ---- what is recovered
 
-  counts_move : counts (widened γ n) ρ (moved_box γ n z s) point now ≡ counts γ ρ s point now
+  counts_move : counts (widened γ n) ρ (moved_box γ n s) point now ≡ counts γ ρ s point now
   unfolding counts
   counts_move = λ i. λ (x : Record). leb x.part last_part && kept_moves x.block i
 
-  records_move : walked_records (widened γ n) ρ (moved_box γ n z s) point now ≡ walked_records γ ρ s point now
+  records_move : walked_records (widened γ n) ρ (moved_box γ n s) point now ≡ walked_records γ ρ s point now
   unfolding walked_records walk records_read block block_start physical
   records_move = ap (flat_map (λ (a : ℕ). records_read γ (content_of γ s a))) (walk_moves [] 0 ρ.first ρ.number)
 
-  recovered_moves : recovered (widened γ n) ρ (moved_box γ n z s) point now ≡ recovered γ ρ s point now
+  recovered_moves : recovered (widened γ n) ρ (moved_box γ n s) point now ≡ recovered γ ρ s point now
   unfolding recovered
   recovered_moves = ap₂ (λ (test : Record → Bool) (xs : List Record). told (λ part. none) (those test xs)) counts_move records_move
 
-  questions_move : (result : List ℕ) → recover_questions (widened γ n) (moved_box γ n z s) now result ≡ recover_questions γ s now result
+  questions_move : (result : List ℕ) → recover_questions (widened γ n) (moved_box γ n s) now result ≡ recover_questions γ s now result
   unfolding recover_questions
   questions_move result =
       λ i.
@@ -81,7 +81,7 @@ module _ {γ : Geometry} (σ : Proper γ) {n : ℕ} {z : List ℕ} (ω : Upgrade
       ∷ Put 6 (eqb (length result) result_size)
       ∷ []
 
-  pub recover_moves : (result : List ℕ) → recover (widened γ n) ρ (moved_box γ n z s) point now result ≡ recover γ ρ s point now result
+  pub recover_moves : (result : List ℕ) → recover (widened γ n) ρ (moved_box γ n s) point now result ≡ recover γ ρ s point now result
   unfolding recover
   recover_moves result =
       ap₂

@@ -1,5 +1,4 @@
 -- The migration as definitions, and the claims about it.
 pub mod Migrate
 pub mod Claims
-pub mod Matched
 pub mod Promise

@@ -1,6 +1,5 @@
--- The migration of an old box's memory, after document 02, Q-7: "A separate entry turns a valid 616-byte memory into the 808-byte one",
--- and Q-8: the serial is "given .. to Q-7's entry". The old box is of geometry γ, the new one has n groups at most, and a serial. Assumes
--- nothing: these are definitions.
+-- The migration of an old box's memory, after document 02, Q-7: "A separate entry turns a valid 616-byte memory into the 808-byte one".
+-- The old box is of geometry γ, the new one has n groups at most. Assumes nothing: these are definitions.
 use Rattle.std.specs.Prelude.{true, false, ◌&&◌, List, [], ◌∷◌, ◌++◌, ℕ, ◌-◌, ◌≤◌, length, eqb}
 use Rattle.octets.specs.Part.{part, repeated}
 use Rattle.lockpage.specs.Geometry.{Geometry, Proper, widened}
@@ -38,21 +37,19 @@ module _ (γ : Geometry) where
 
   module _ (n : ℕ) where
     -- "The memory has 64 counts, so it is 808 bytes: counts 32..287, last time 288, G 292, held 293, update count 294, zero 295, page
-    -- 296..807": every field of the old memory, and between the counts and the rest zeros for the counts that are new; Q-8: "Sixteen
-    -- bytes of serial, appended to the memory (824 bytes in all, Q-7's room too)". The serial given comes first
-    unfoldable pub migrated : List ℕ → List ℕ → List ℕ
-    migrated serial old =
+    -- 296..807": every field of the old memory, and between the counts and the rest zeros for the counts that are new
+    unfoldable pub migrated : List ℕ → List ℕ
+    migrated old =
         salt old
-        ++ (counts old ++ (repeated (time_start (widened γ n) - time_start γ) 0 ++ (small_fields old ++ (held_page γ old ++ serial))))
+        ++ (counts old ++ (repeated (time_start (widened γ n) - time_start γ) 0 ++ (small_fields old ++ held_page γ old)))
 
-    -- "(a memory not 616 bytes and valid, or a room not 808 bytes, gets 1)"; of the serial, Q-8: "another length gets 6"
-    unfoldable pub migrate_questions : List ℕ → List ℕ → List ℕ → List Question
-    migrate_questions old serial buffer =
-        Put 1 (valid γ old && eqb (length buffer) (memory_size (widened γ n)))
-        ∷ Put 6 (eqb (length serial) (widened γ n).serial_size)
-        ∷ []
+    -- "(a memory not 616 bytes and valid, or a room not 808 bytes, gets 1)"
+    unfoldable pub migrate_questions : List ℕ → List ℕ → List Question
+    migrate_questions old buffer = Put 1 (valid γ old && eqb (length buffer) (memory_size (widened γ n))) ∷ []
 
-    unfoldable pub migrate : List ℕ → List ℕ → List ℕ → Migration
-    migrate old serial buffer =
-        let k = first_no (migrate_questions old serial buffer) in
-        elim (eqb k 0) [ true ↦ migration_of 0 (migrated serial old) | false ↦ migration_of k buffer ]
+    unfoldable pub migrate : List ℕ → List ℕ → Migration
+    migrate old buffer =
+        elim (eqb (first_no (migrate_questions old buffer)) 0) [
+          | true ↦ migration_of 0 (migrated old)
+          | false ↦ migration_of (first_no (migrate_questions old buffer)) buffer
+        ]

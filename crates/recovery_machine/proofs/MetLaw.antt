@@ -12,7 +12,7 @@ use Rattle.lockpage.specs.Size.{block_size}
 use Rattle.lockpage.specs.Update.{latest_time}
 use Rattle.lockpage.proofs.UpdateLaw.{written_flag, written_word}
 use Rattle.addressing.specs.Map.{data_blocks}
-use Rattle.memory.specs.Memory.{Settings, groups}
+use Rattle.memory.specs.Memory.{groups}
 use Rattle.machine.specs.Command.{Box}
 use Rattle.machine.specs.Question.{refusal, first_no}
 use Rattle.machine.specs.Step.{Accepted, step}
@@ -43,20 +43,17 @@ use Rattle.recovery_machine.proofs.AttackLaw.{Attackable, attack_restart, attack
 use Rattle.recovery_machine.proofs.OrderBytesLaw.{log_are, order_leaves, plain_leaves}
 
 module _ {γ : Geometry} (σ : Proper γ) where
-  module _ (s : Box) (settings : Settings) (lock part point : ℕ) (content : List ℕ) (bytes : ByteBox s) (salt-bytes : AreBytes settings.salt)
-      (serial-bytes : AreBytes settings.serial) (content_bytes : AreBytes content) (a : (format γ s settings).number ≡ 0) (k : first_no (start_questions lock) ≡ 0) (p : part ≤ last_part)
+  module _ (s : Box) (g : ℕ) (salt : List ℕ) (lock part point : ℕ) (content : List ℕ) (bytes : ByteBox s) (salt-bytes : AreBytes salt)
+      (content_bytes : AreBytes content) (a : (format γ s g salt).number ≡ 0) (k : first_no (start_questions lock) ≡ 0) (p : part ≤ last_part)
       (size : length content ≡ block_size γ) (early : point + 1 ≤ latest_time) (some_entries : 4 ≤ γ.entries)
-      (some_blocks : 4 ≤ data_blocks γ settings.groups) where
-    abbrev g : ℕ
-    g = settings.groups
-
+      (some_blocks : 4 ≤ data_blocks γ g) where
     -- ---- the store and the box, after each call
 
     abbrev u : Use
-    u = one_put γ s settings lock part point content
+    u = one_put γ s g salt lock part point content
 
     abbrev s0 : Box
-    s0 = (format γ s settings).box
+    s0 = (format γ s g salt).box
 
     abbrev s1 : Box
     s1 = box_then γ lock point content s0
@@ -72,7 +69,7 @@ module _ {γ : Geometry} (σ : Proper γ) where
 
     -- the box is formatted
     fresh : Fresh σ g s0
-    fresh = formatted σ s settings a
+    fresh = formatted σ s g salt a
 
     -- the put is one write, the store on demand another, and the sync follows
     used_is : used γ u ≡ site_of (one_record lock part) s1
@@ -145,7 +142,7 @@ module _ {γ : Geometry} (σ : Proper γ) where
     -- each command leaves bytes
     synced_bytes : AreBytes s3.disk
     synced_bytes =
-        let b0 = (formats σ s settings).bytes bytes salt-bytes serial-bytes in
+        let b0 = (formats σ s g salt).bytes bytes salt-bytes in
         let b1 = order_leaves σ s0 (first_write γ lock point content s0) b0 content_bytes in
         let b2 = order_leaves σ s1 (log_write γ lock point content s0 g part point) b1
         (log_are γ (one_record lock part).records (pointer_then γ lock point content s0 g part point)) in

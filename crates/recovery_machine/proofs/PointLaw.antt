@@ -57,7 +57,7 @@ module _ {γ : Geometry} (σ : Proper γ) (u : Use) (k : StoredAtPoint γ u) whe
   pub point_tells : LogTells γ (range γ u) u.lock (synced γ u)
   point_tells =
       subst (LogTells γ (range γ u) u.lock) all_calls
-      (log_tells σ (range γ u) u.lock (format γ u.before u.settings).box (u.calls ++ last_calls) all_alone)
+      (log_tells σ (range γ u) u.lock (format γ u.before u.groups u.salt).box (u.calls ++ last_calls) all_alone)
 
   pub point_stored : (synced γ u).versions.records ≡ []
   point_stored = flush_stores σ (range γ u) (used γ u).versions (used γ u).box u.point k.flush_passes
@@ -73,7 +73,7 @@ module _ {γ : Geometry} (σ : Proper γ) (u : Use) (k : StoredAtPoint γ u) whe
       → (content : List ℕ) × Newest γ (range γ u) (started γ u) u.calls part b content × (content_of γ (synced γ u).box b ≡ content)
   unfolding KnownIsNewest NewestReadsBack
   point_put part b e =
-      let s = (format γ u.before u.settings).box in
+      let s = (format γ u.before u.groups u.salt).box in
       let found = known_is_newest σ (range γ u) u.lock s u.calls part b (ap (λ (f : ℕ → Option ℕ). f part) (sym point_newest) ∙ e) in
       let longer = newest_longer σ (range γ u) part (started γ u) u.calls last_calls b found.0 found.1 (tt, (tt, tt)) in
       let read = newest_reads_back σ (range γ u) u.lock s (u.calls ++ last_calls) part b found.0 all_alone longer in
@@ -81,10 +81,10 @@ module _ {γ : Geometry} (σ : Proper γ) (u : Use) (k : StoredAtPoint γ u) whe
 
   -- ---- the box
 
-  fresh : Fresh σ u.settings.groups (started γ u).box
-  fresh = formatted σ u.before u.settings k.formatted
+  fresh : Fresh σ u.groups (started γ u).box
+  fresh = formatted σ u.before u.groups u.salt k.formatted
 
-  pub point_groups : groups γ (synced γ u).box.memory ≡ u.settings.groups
+  pub point_groups : groups γ (synced γ u).box.memory ≡ u.groups
   point_groups =
       ap (λ (x : Site). groups γ x.box.memory) (sym all_calls)
       ∙ calls_groups σ (range γ u) (started γ u) (u.calls ++ last_calls)
@@ -105,9 +105,9 @@ module _ {γ : Geometry} (σ : Proper γ) (u : Use) (k : StoredAtPoint γ u) whe
 
   -- ---- the reserve
 
-  some_blocks : 1 ≤ data_blocks γ u.settings.groups
+  some_blocks : 1 ≤ data_blocks γ u.groups
   some_blocks =
-      data_blocks_some σ u.settings.groups
+      data_blocks_some σ u.groups
       (subst (λ (g : ℕ). 1 ≤ g) fresh.same_groups (facts σ (started γ u).box.memory fresh.valid.memory).least)
 
   start_reserve : ReserveFree γ (range γ u) (started γ u)
@@ -122,7 +122,7 @@ module _ {γ : Geometry} (σ : Proper γ) (u : Use) (k : StoredAtPoint γ u) whe
 
   in_box : InBox γ (range γ u) (started γ u).box
   in_box =
-      let same : data_blocks γ (groups γ (started γ u).box.memory) ≡ data_blocks γ u.settings.groups = ap (data_blocks γ) fresh.same_groups in
+      let same : data_blocks γ (groups γ (started γ u).box.memory) ≡ data_blocks γ u.groups = ap (data_blocks γ) fresh.same_groups in
       omega arith
 
   pub point_reserve : ReserveFree γ (range γ u) (synced γ u)

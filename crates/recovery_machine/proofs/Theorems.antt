@@ -68,8 +68,8 @@ module _ {γ : Geometry} (σ : Proper γ) where
 
   pub premises_can_be_met : PremisesCanBeMet γ
   unfolding PremisesCanBeMet
-  premises_can_be_met s f lock part point now content result b salt-bytes serial-bytes content_bytes a k p size later soon latest long some_entries some_blocks =
-      premises_met σ s f lock part point content b salt-bytes serial-bytes content_bytes a k p size (omega arith) some_entries some_blocks now result later soon
+  premises_can_be_met s g salt lock part point now content result b salt-bytes content_bytes a k p size later soon latest long some_entries some_blocks =
+      premises_met σ s g salt lock part point content b salt-bytes content_bytes a k p size (omega arith) some_entries some_blocks now result later soon
       latest long
 
 -- of the box that the code runs: `sockjade_recover` is `recover present` by its contract

@@ -8,7 +8,6 @@ use Rattle.lockpage.specs.Geometry.{Geometry}
 use Rattle.lockpage.specs.Size.{block_size}
 use Rattle.lockpage.specs.Update.{latest_time}
 use Rattle.addressing.specs.Map.{data_blocks}
-use Rattle.memory.specs.Memory.{Settings}
 use Rattle.machine.specs.Command.{Box, Command, command_of, answer_size}
 use Rattle.machine.specs.Question.{first_no}
 use Rattle.machine.specs.Step.{Accepted, step}
@@ -28,11 +27,12 @@ module _ (γ : Geometry) where
   plain kind now = command_of kind 0 now 0 [] [] (repeated (answer_size γ) 0)
 
   -- one part is put, the log stored and the box synced, all at the point
-  abbrev pub one_put : Box → Settings → ℕ → ℕ → ℕ → List ℕ → Use
-  one_put s f lock part point content =
+  abbrev pub one_put : Box → ℕ → List ℕ → ℕ → ℕ → ℕ → List ℕ → Use
+  one_put s g salt lock part point content =
       record {
         before = s;
-        settings = f;
+        groups = g;
+        salt = salt;
         lock = lock;
         calls = PutPart part point content ∷ [];
         point = point;
@@ -58,7 +58,7 @@ module _ (γ : Geometry) where
     pub named : recovered γ (range γ u) (intruded γ u (attack u)) u.point now part ≡ some 1
 
   unfoldable pub PremisesCanBeMet : Type 0
-  PremisesCanBeMet = (s : Box) (f : Settings) (lock part point now : ℕ) (content result : List ℕ) → ByteBox s → AreBytes f.salt → AreBytes f.serial
-      → AreBytes content → (format γ s f).number ≡ 0 → first_no (start_questions lock) ≡ 0 → part ≤ last_part → length content ≡ block_size γ
-      → point < now → now < point + lock → now ≤ latest_time → length result ≡ result_size → 4 ≤ γ.entries → 4 ≤ data_blocks γ f.groups
-      → Met (one_put s f lock part point content) part now result
+  PremisesCanBeMet = (s : Box) (g : ℕ) (salt : List ℕ) (lock part point now : ℕ) (content result : List ℕ) → ByteBox s → AreBytes salt
+      → AreBytes content → (format γ s g salt).number ≡ 0 → first_no (start_questions lock) ≡ 0 → part ≤ last_part → length content ≡ block_size γ
+      → point < now → now < point + lock → now ≤ latest_time → length result ≡ result_size → 4 ≤ γ.entries → 4 ≤ data_blocks γ g
+      → Met (one_put s g salt lock part point content) part now result

@@ -6,7 +6,7 @@ use Rattle.std.specs.Prelude.{◌≡◌, List, [], ℕ, ◌+◌, ◌<◌}
 use Rattle.std.proofs.Math.Option.{some}
 use Rattle.octets.specs.Part.{AreBytes}
 use Rattle.lockpage.specs.Geometry.{Geometry}
-use Rattle.memory.specs.Memory.{Settings, groups}
+use Rattle.memory.specs.Memory.{groups}
 use Rattle.machine.specs.Command.{Box, Command}
 use Rattle.machine.specs.Question.{first_no}
 use Rattle.machine.specs.Step.{Accepted, step, padded}
@@ -23,11 +23,12 @@ use Rattle.versions_state.specs.Layout.{parts}
 use Rattle.versions_state.specs.State.{newest_bytes}
 use Rattle.recovery_machine.specs.Recover.{recovered, recover, AcceptedRecovery}
 
--- how a box was used up to the point: formatted; a store started with a lock; its calls; then a store on
+-- how a box was used up to the point: formatted, with so many groups and a salt; a store started with a lock; its calls; then a store on
 -- demand and a sync, at the point
 pub record Use : Type 0 where
   pub before : Box
-  pub settings : Settings
+  pub groups : ℕ
+  pub salt : List ℕ
   pub lock : ℕ
   pub calls : List Call
   pub point : ℕ
@@ -36,10 +37,10 @@ pub record Use : Type 0 where
 module _ (γ : Geometry) where
   -- the blocks of that box; the store as it was started, as its calls left it, with its log just stored, and synced
   abbrev pub range : Use → Range
-  range u = whole_box γ u.settings.groups
+  range u = whole_box γ u.groups
 
   abbrev pub started : Use → Site
-  started u = start_site γ (range u) u.lock (format γ u.before u.settings).box
+  started u = start_site γ (range u) u.lock (format γ u.before u.groups u.salt).box
 
   abbrev pub used : Use → Site
   used u = calls γ (range u) (started u) u.calls
@@ -52,7 +53,7 @@ module _ (γ : Geometry) where
 
   -- "started once, alone used the box from formatting to X, without restart, had just stored its log and synced at X"
   pub record StoredAtPoint (u : Use) : Type 0 where
-    pub formatted : (format γ u.before u.settings).number ≡ 0
+    pub formatted : (format γ u.before u.groups u.salt).number ≡ 0
     pub lock_passes : first_no (start_questions u.lock) ≡ 0
     pub alone : Throughout γ (range u) StoreAlone (started u) u.calls
     pub flush_passes : (flush γ (range u) (used u).versions (used u).box u.point).number ≡ 0

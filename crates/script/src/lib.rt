@@ -7,7 +7,7 @@ ghost use Rattle.script_printout.specs.Reader.{begun, fed_of};
 ghost use Rattle.script_printout.specs.Reader as R;
 
 use addressing::GROUP_SIZE;
-use memory::layout::{MEMORY_SIZE, SALT_SIZE, SERIAL_SIZE};
+use memory::layout::{MEMORY_SIZE, SALT_SIZE};
 use script_answers::printing::MOST_PRINTED;
 use script_printout::{Progress, Reader, Stage};
 
@@ -18,13 +18,12 @@ pub struct Fed {
     pub progress: Progress,
 }
 
-// Formats the box of a script, one group with a zero salt and a zero serial, and answers the reader of its first byte.
+// Formats the box of a script, one group with a zero salt, and answers the reader of its first byte.
 pub fn begin(memory: &mut [u8; MEMORY_SIZE], disk: &mut [u8; GROUP_SIZE]) -> Reader
     ensures { (result ≡ begun) × (box_at memory.exit disk.exit ≡ script_box (box_at memory.entry disk.entry)) }
 {
     let salt = [0u8; SALT_SIZE];
-    let serial = [0u8; SERIAL_SIZE];
-    formatter::format(memory, disk, 1, &salt, &serial);
+    formatter::format(memory, disk, 1, &salt);
     Reader {
         number: 1,
         stage: Stage::Header(0),

@@ -5,11 +5,12 @@ use Prim.Native.Nat.{ℕ, ◌+◌, ◌≤◌, ◌<◌}
 use native.Mathlib.Nat.{add-zero}
 use native.Mathlib.Omega.{arith}
 use lib.ListN.{length}
-use Rattle.octets.specs.Part.{replaced}
+use Rattle.octets.specs.Part.{repeated, replaced}
 use Rattle.octets.proofs.ReplacedLaw.{replaced_none}
 use Rattle.lockpage.specs.Geometry.{present}
 use Rattle.machine.specs.Command.{Box, box_of}
 use Rattle.machine.specs.Format.{FormatOutcome, format_outcome_of, format}
+use Rattle.memory.specs.Layout.{salt_size}
 use Rattle.script_lines.specs.declared.Values.{Values}
 use Rattle.script_lines.specs.declared.Line.{Line}
 use Rattle.script_lines.specs.declared.Judged.TheVariants.{Right}
@@ -19,7 +20,7 @@ use Rattle.script_answers.specs.Answer.{most_printed, Ran, ran_of, ran_line, lin
 use Rattle.script_printout.specs.declared.Stage.TheVariants.{Ended}
 use Rattle.script_printout.specs.declared.Reader.{Reader}
 use Rattle.script_printout.specs.declared.Progress.{Progress}
-use Rattle.script_printout.specs.Printout.{script_settings, script_box, header, heading, bad_line}
+use Rattle.script_printout.specs.Printout.{script_box, header, heading, bad_line}
 use Rattle.script_printout.specs.Reader.{Printing, printing, reader_of, reader_behind, stopped, header_end, line_end, placed_of, placed, OnEveryBox}
 use Rattle.script_printout.proofs.TextLaw.{heading_size, bad_line_size}
 use Rattle.script_printout.proofs.ReaderLaw.{header_whole, line_right}
@@ -99,7 +100,7 @@ prints_line number line v s memory disk shown out at p out' j e r w =
 -- ---- formatting
 
 pub script_box_by : (memory disk memory' disk' : List ℕ) (number : ℕ)
-    → format_outcome_of number memory' disk' ≡ format present (box_of memory disk) script_settings
+    → format_outcome_of number memory' disk' ≡ format present (box_of memory disk) 1 (repeated salt_size 0)
     → box_of memory' disk' ≡ script_box (box_of memory disk)
 unfolding script_box
 script_box_by memory disk memory' disk' number e = ap (λ (f : FormatOutcome). f.box) e

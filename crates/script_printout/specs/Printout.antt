@@ -5,7 +5,6 @@ use Rattle.octets.specs.Part.{repeated, equal}
 use Rattle.lockpage.specs.Geometry.{present}
 use Rattle.addressing.specs.Map.{disk_size}
 use Rattle.memory.specs.Layout.{memory_size, salt_size}
-use Rattle.memory.specs.Memory.{Settings, settings_of}
 use Rattle.machine.specs.Command.{Box, box_of}
 use Rattle.machine.specs.Format.{format}
 use Rattle.decimal.specs.Decimal.{decimal}
@@ -36,16 +35,12 @@ bad_line n = bad ++ (decimal n ++ (newline ∷ []))
 
 -- ---- the printout
 
--- memory and disk before
+-- "The program formats one group with a zero salt": memory and disk before
 abbrev pub blank_box : Box
 blank_box = box_of (repeated (memory_size present) 0) (repeated (disk_size present 1) 0)
 
--- "The program formats one group with a zero salt"; of the serials, document 02, Q-8: "the script's are zero"
-abbrev pub script_settings : Settings
-script_settings = settings_of 1 (repeated salt_size 0) (repeated present.serial_size 0)
-
 unfoldable pub script_box : Box → Box
-script_box s = (format present s script_settings).box
+script_box s = (format present s 1 (repeated salt_size 0)).box
 
 -- lines of values, from number n on: each is run on the box that the one before left. "A line not of this form prints `bad line N` ..
 -- and ends the run"

@@ -7,7 +7,7 @@ ghost use Rattle.lockpage.specs.Geometry.{base, present};
 ghost use Rattle.machine.specs.Step.{step};
 ghost use Rattle.machine.specs.Format.{format};
 ghost use Rattle.machine.specs.Query.{query_step};
-ghost use Rattle.machine.specs.Call.{box_at, command_at, outcome_at, settings_at, format_outcome_at, query_at, query_outcome_at, low_half, high_half};
+ghost use Rattle.machine.specs.Call.{box_at, command_at, outcome_at, format_outcome_at, query_at, query_outcome_at, low_half, high_half};
 ghost use Rattle.memory.specs.Memory.{groups};
 ghost use Rattle.versions_machine.specs.Allocation.{first_block, whole_box};
 ghost use Rattle.versions_bytes.specs.Call.{located_of, called_at, started_at, start_bytes, lookup, put_bytes, flush_bytes};
@@ -154,20 +154,18 @@ pub extern "C" fn sockjade_format(
     disk: &mut [u8],
     groups: u32,
     salt: &[u8],
-    serial: &[u8],
 ) -> u32
     ensures { format_outcome_at result memory.exit disk.exit
-        ≡ format present (box_at memory.entry disk.entry) (settings_at groups salt.entry serial.entry) }
+        ≡ format present (box_at memory.entry disk.entry) groups salt.now }
 {
-    formatter::format(memory, disk, groups, salt, serial)
+    formatter::format(memory, disk, groups, salt)
 }
 
-// Turns the memory of an old box, of 16 groups at most, into that of a present one with a serial: 0, with the memory as document 02 has
-// it; where the number is not 0, no byte changed.
+// Turns the memory of an old box, of 16 groups at most, into that of a present one: 0, with the memory as document 02 has it; where the
+// number is not 0, no byte changed.
 #[unsafe(no_mangle)]
-pub extern "C" fn sockjade_migrate(old: &[u8], serial: &[u8], memory: &mut [u8]) -> u32
-    ensures { migration_at result memory.exit
-        ≡ migrate base present.most_groups old.now serial.now memory.old }
+pub extern "C" fn sockjade_migrate(old: &[u8], memory: &mut [u8]) -> u32
+    ensures { migration_at result memory.exit ≡ migrate base present.most_groups old.now memory.old }
 {
-    migration::migrate(old, serial, memory)
+    migration::migrate(old, memory)
 }

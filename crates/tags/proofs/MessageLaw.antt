@@ -12,56 +12,39 @@ use Rattle.octets.proofs.NumberLaw.{bytes_length}
 use Rattle.lockpage.specs.Geometry.{Geometry, Proper}
 use Rattle.lockpage.specs.Size.{page_size}
 use Rattle.memory.specs.Layout.{memory_size, salt_size, count_size}
-use Rattle.memory.specs.Memory.{salt, count, serial}
-use Rattle.memory.proofs.FieldLaw.{salt_length, serial_length}
+use Rattle.memory.specs.Memory.{salt, count}
+use Rattle.memory.proofs.FieldLaw.{salt_length}
 use Rattle.machine.specs.Command.{tag_size, answer_size}
 use Rattle.machine.specs.Tag.{group_number_size, message_size, tag_message, tag, tagged}
 use Rattle.machine.proofs.TagLaw.{tag_length}
 
 -- γ is any proper geometry
 module _ {γ : Geometry} (σ : Proper γ) where
-  -- where the parts stand behind the serial
-  abbrev salt_at : ℕ
-  salt_at = γ.serial_size
-
-  abbrev group_at : ℕ
-  group_at = salt_at + salt_size
-
-  abbrev count_at : ℕ
-  count_at = group_at + group_number_size
-
-  abbrev page_at : ℕ
-  page_at = count_at + count_size
-
-  pub message_built : (m page out a b c d r : List ℕ) (g n : ℕ) → length m ≡ memory_size γ → length page ≡ page_size γ → length out ≡ message_size γ
-      → a ≡ replaced out 0 (serial γ m) → b ≡ replaced a salt_at (salt m) → c ≡ with_number b group_at group_number_size g → n ≡ count m g
-      → d ≡ with_number c count_at count_size n → r ≡ replaced d page_at (part page 0 (page_size γ)) → r ≡ tag_message γ m g page
+  pub message_built : (m page out a b c r : List ℕ) (g n : ℕ) → length m ≡ memory_size γ → length page ≡ page_size γ → length out ≡ message_size γ
+      → a ≡ replaced out 0 (salt m) → b ≡ with_number a salt_size group_number_size g → n ≡ count m g
+      → c ≡ with_number b (salt_size + group_number_size) count_size n
+      → r ≡ replaced c (salt_size + group_number_size + count_size) (part page 0 (page_size γ)) → r ≡ tag_message γ m g page
   unfolding with_number tag_message
-  message_built m page out a b c d r g n lm lp lo ea eb ec en ed er =
-      let z = serial γ m in
+  message_built m page out a b c r g n lm lp lo ea eb en ec er =
       let s = salt m in
       let x = bytes group_number_size g in
       let y = bytes count_size (count m g) in
-      let lz : length z ≡ salt_at = serial_length σ m lm in
       let ls : length s ≡ salt_size = salt_length σ m lm in
       let lx : length x ≡ group_number_size = bytes_length group_number_size g in
       let ly : length y ≡ count_size = bytes_length count_size (count m g) in
-      let lzs : length (z ++ s) ≡ group_at = length-append z s ∙ omega arith in
-      let lzsx : length ((z ++ s) ++ x) ≡ count_at = length-append (z ++ s) x ∙ omega arith in
-      let lzsxy : length (((z ++ s) ++ x) ++ y) ≡ page_at = length-append ((z ++ s) ++ x) y ∙ omega arith in
-      let second : b ≡ replaced out 0 (z ++ s) = replaced_next out a z s b salt_at ea (sym lz) (omega arith) eb in
-      let third : c ≡ replaced out 0 ((z ++ s) ++ x) = replaced_next out b (z ++ s) x c group_at second (sym lzs) (omega arith) ec in
-      let fourth : d ≡ replaced out 0 (((z ++ s) ++ x) ++ y) =
-      replaced_next out c ((z ++ s) ++ x) y d count_at third (sym lzsx) (omega arith)
-      (ed ∙ ap (λ (k : ℕ). replaced c count_at (bytes count_size k)) en) in
-      let last : r ≡ replaced out 0 ((((z ++ s) ++ x) ++ y) ++ page) =
-      replaced_next out d (((z ++ s) ++ x) ++ y) page r page_at fourth (sym lzsxy) (omega arith)
-      (er ∙ ap (replaced d page_at) (part_all page (page_size γ) (omega arith))) in
+      let lsx : length (s ++ x) ≡ salt_size + group_number_size = length-append s x ∙ omega arith in
+      let lsxy : length ((s ++ x) ++ y) ≡ salt_size + group_number_size + count_size = length-append (s ++ x) y ∙ omega arith in
+      let second : b ≡ replaced out 0 (s ++ x) = replaced_next out a s x b salt_size ea (sym ls) (omega arith) eb in
+      let third : c ≡ replaced out 0 ((s ++ x) ++ y) =
+      replaced_next out b (s ++ x) y c (salt_size + group_number_size) second (sym lsx) (omega arith)
+      (ec ∙ ap (λ (k : ℕ). replaced b (salt_size + group_number_size) (bytes count_size k)) en) in
+      let last : r ≡ replaced out 0 (((s ++ x) ++ y) ++ page) =
+      replaced_next out c ((s ++ x) ++ y) page r (salt_size + group_number_size + count_size) third (sym lsxy) (omega arith)
+      (er ∙ ap (replaced c (salt_size + group_number_size + count_size)) (part_all page (page_size γ) (omega arith))) in
       last
-      ∙ replaced_all out ((((z ++ s) ++ x) ++ y) ++ page) (length-append (((z ++ s) ++ x) ++ y) page ∙ omega arith)
-      ∙ append_assoc ((z ++ s) ++ x) y page
-      ∙ append_assoc (z ++ s) x (y ++ page)
-      ∙ append_assoc z s (x ++ (y ++ page))
+      ∙ replaced_all out (((s ++ x) ++ y) ++ page) (length-append ((s ++ x) ++ y) page ∙ omega arith)
+      ∙ append_assoc (s ++ x) y page
+      ∙ append_assoc s x (y ++ page)
 
   -- the tag of the page at the front of an answer, copied behind it
   pub tag_stored : (m answer own r : List ℕ) (g : ℕ) → length answer ≡ answer_size γ → own ≡ tag γ m g (part answer 0 (page_size γ))

@@ -10,7 +10,7 @@ ghost use Rattle.machine.specs.Tag.{message_size, tag_message, tagged};
 ghost use Rattle.machine.specs.Tag as T;
 
 use lockpage::PAGE_SIZE;
-use memory::layout::{COUNT_SIZE, SALT_SIZE, SERIAL_SIZE};
+use memory::layout::{COUNT_SIZE, SALT_SIZE};
 
 const TAG_SIZE: usize = blake3::DIGEST_SIZE;
 
@@ -22,28 +22,24 @@ pub const ANSWER_SIZE: usize = PAGE_SIZE + TAG_SIZE;
 
 const GROUP_NUMBER_SIZE: usize = 8;
 
-// Where each part of the message stands, behind the serial.
-const SALT_AT: usize = SERIAL_SIZE;
+const MESSAGE_SIZE: usize = SALT_SIZE + GROUP_NUMBER_SIZE + COUNT_SIZE + PAGE_SIZE;
 
-const GROUP_AT: usize = SALT_AT + SALT_SIZE;
-
-const COUNT_AT: usize = GROUP_AT + GROUP_NUMBER_SIZE;
-
-const PAGE_AT: usize = COUNT_AT + COUNT_SIZE;
-
-const MESSAGE_SIZE: usize = PAGE_AT + PAGE_SIZE;
-
-// Stores the message of a tag: the serial, the salt, the group, its count, the page.
+// Stores the message of a tag: the salt, the group, its count, the page.
 fn store_message(out: &mut [u8], memory: &[u8], group: u32, page: &[u8])
     requires { HasPage present memory.now group page.now × (length out.old ≡ message_size present) }
     ensures { out.new ≡ tag_message present memory.now group page.now }
 {
-    memory::copy_serial(memory, &mut out[0..SALT_AT]);
-    memory::copy_salt(memory, &mut out[SALT_AT..GROUP_AT]);
-    octets::store_u64(out, GROUP_AT, group as u64);
+    memory::copy_salt(memory, &mut out[0..SALT_SIZE]);
+    octets::store_u64(out, SALT_SIZE, group as u64);
     let count = memory::count(memory, group);
-    octets::store_u32(out, COUNT_AT, count);
-    octets::copy(page, 0, out, PAGE_AT, PAGE_SIZE);
+    octets::store_u32(out, SALT_SIZE + GROUP_NUMBER_SIZE, count);
+    octets::copy(
+        page,
+        0,
+        out,
+        SALT_SIZE + GROUP_NUMBER_SIZE + COUNT_SIZE,
+        PAGE_SIZE,
+    );
 }
 
 // Fills out with the tag of a group's page.

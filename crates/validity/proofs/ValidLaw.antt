@@ -16,14 +16,12 @@ use Rattle.lockpage.specs.Geometry.{Geometry, Proper}
 use Rattle.lockpage.specs.Size.{page_size}
 use Rattle.lockpage.specs.Update.{latest_time}
 use Rattle.memory.specs.Layout.{memory_size, salt_size, count_size, count_start, time_start, reserved_start, reserved_size}
-use Rattle.memory.specs.Memory.{count, last_time, groups, held, none, most_updates, update_count, held_page, with_salt, with_count, with_no_counts, with_last_time}
-use Rattle.memory.specs.Memory.{Settings, holding, holding_none, formatted_memory}
+use Rattle.memory.specs.Memory.{salt, count, last_time, groups, held, none, most_updates, update_count, held_page, with_salt, with_count, with_no_counts, with_last_time}
+use Rattle.memory.specs.Memory.{holding, holding_none, formatted_memory}
 use Rattle.validity.specs.Valid.{count_limit, every, held_clauses, none_held_clauses, valid_held, valid}
-use Rattle.memory.specs.Ready.{Storable}
-use Rattle.memory.specs.Claims.{Reads}
+use Rattle.memory.specs.Claims.{Reads, changed}
 use Rattle.memory.proofs.FormatLaw.{formatted_reads, formatted_zeros}
-use Rattle.memory.proofs.PlaceLaw.{InFront, InBack, salt_in, salt_rest, count_in, count_rest, counts_in, time_in, holding_in}
-use Rattle.memory.proofs.FieldLaw.{salt_set, count_set, counts_zero}
+use Rattle.memory.proofs.FieldLaw.{InFront, InBack, salt_in, salt_rest, count_in, count_rest, counts_in, time_in, holding_in, salt_set, count_set, counts_zero}
 use Rattle.memory.proofs.FieldLaw.{counts_cleared, time_set, page_held, page_dropped}
 
 -- ---- and
@@ -177,10 +175,10 @@ module _ {γ : Geometry} (σ : Proper γ) where
   -- ---- what keeps it
 
   -- a memory is valid by what its fields read
-  pub from_reads : {m s : List ℕ} {c : ℕ → ℕ} {t g h n : ℕ} {p z : List ℕ} → Reads γ m s c t g h n p z
+  pub from_reads : (m s : List ℕ) (c : ℕ → ℕ) (t g h n : ℕ) (p : List ℕ) → Reads γ m s c t g h n p
       → 1 ≤ g → g ≤ γ.most_groups → t ≤ latest_time → UnusedFrom γ m g → ReservedZero γ m
       → ((h ≡ none → ⊥) → HeldFits γ g (c h) h n) → (h ≡ none → (n ≡ 0) × (p ≡ repeated (page_size γ) 0)) → valid γ m ≡ true
-  from_reads {m} {s} {c} {t} {g} {h} {n} {p} r least most time unused reserved fits blank =
+  from_reads m s c t g h n p r least most time unused reserved fits blank =
       is_valid_is m
       (record {
         size = r.size;
@@ -232,20 +230,24 @@ module _ {γ : Geometry} (σ : Proper γ) where
 
     pub valid_salt : (s : List ℕ) → length s ≡ salt_size → valid γ (with_salt m s) ≡ true
     valid_salt s l =
-        from_reads (salt_set σ m v.size s l) v.least v.most v.time
+        from_reads (with_salt m s) s (count m) (last_time γ m) (groups γ m) (held γ m) (update_count γ m) (held_page γ m) (salt_set σ m v.size s l)
+        v.least v.most v.time
         (salt_rest σ m v.size s l (count_start (groups γ m)) (time_start γ - count_start (groups γ m)) (omega arith) ∙ v.unused)
         (front_reserved (with_salt m s) (salt_in σ m v.size s l)) held_fits held_blank
 
     pub valid_time : (t : ℕ) → t ≤ latest_time → valid γ (with_last_time γ m t) ≡ true
     valid_time t h =
         let i = time_in σ m v.size t in
-        from_reads (time_set σ m v.size t (omega arith)) v.least v.most h (back_unused (with_last_time γ m t) i) (i.reserved ∙ v.reserved)
+        from_reads (with_last_time γ m t) (salt m) (count m) t (groups γ m) (held γ m) (update_count γ m) (held_page γ m)
+        (time_set σ m v.size t (omega arith)) v.least v.most h (back_unused (with_last_time γ m t) i) (i.reserved ∙ v.reserved)
         held_fits held_blank
 
     pub valid_count : (g n : ℕ) → g < groups γ m → n < 256 ^ count_size → (held γ m ≡ g → (1 ≤ n) × (n ≤ count_limit))
         → valid γ (with_count m g n) ≡ true
     valid_count g n h s k =
-        from_reads (count_set σ m v.size g n (omega (arith, v.most)) s) v.least v.most v.time
+        from_reads (with_count m g n) (salt m) (changed (count m) g n) (last_time γ m) (groups γ m) (held γ m) (update_count γ m) (held_page γ m)
+        (count_set σ m v.size g n (omega (arith, v.most)) s)
+        v.least v.most v.time
         (count_rest σ m v.size g n (count_start (groups γ m)) (time_start γ - count_start (groups γ m)) (omega (arith, v.most)) (omega arith)
         ∙ v.unused)
         (front_reserved (with_count m g n) (count_in σ m v.size g n (omega (arith, v.most))))
@@ -261,14 +263,16 @@ module _ {γ : Geometry} (σ : Proper γ) where
 
     pub valid_no_counts : held γ m ≡ none → valid γ (with_no_counts γ m) ≡ true
     valid_no_counts e =
-        from_reads (counts_cleared σ m v.size) v.least v.most v.time (counts_zero σ m v.size (groups γ m) v.most)
+        from_reads (with_no_counts γ m) (salt m) (λ k. 0) (last_time γ m) (groups γ m) (held γ m) (update_count γ m) (held_page γ m)
+        (counts_cleared σ m v.size) v.least v.most v.time (counts_zero σ m v.size (groups γ m) v.most)
         (front_reserved (with_no_counts γ m) (counts_in σ m v.size)) (λ n. absurd (n e)) held_blank
 
     pub valid_holding : (g n : ℕ) (p : List ℕ) → g < groups γ m → 1 ≤ count m g → count m g ≤ count_limit → 1 ≤ n → n ≤ most_updates
         → length p ≡ page_size γ → valid γ (holding γ m g n p) ≡ true
     valid_holding g n p h least most some few l =
         let i = holding_in σ m v.size g n p l in
-        from_reads (page_held σ m v.size g n p (omega (arith, v.most)) (omega arith) l)
+        from_reads (holding γ m g n p) (salt m) (count m) (last_time γ m) (groups γ m) g n p
+        (page_held σ m v.size g n p (omega (arith, v.most)) (omega arith) l)
         v.least v.most v.time (back_unused (holding γ m g n p) i) (i.reserved ∙ v.reserved)
         (λ x. record { group = h; counted = least; unexhausted = most; updated = some; few_updates = few }) (λ e. absurd (omega (arith, v.most)))
 
@@ -276,7 +280,8 @@ module _ {γ : Geometry} (σ : Proper γ) where
     unfolding holding_none
     valid_none =
         let i = holding_in σ m v.size none 0 (repeated (page_size γ) 0) (repeated_length (page_size γ) 0) in
-        from_reads (page_dropped σ m v.size) v.least v.most v.time (back_unused (holding_none γ m) i) (i.reserved ∙ v.reserved) (λ n. absurd (n refl)) (λ e. (refl, refl))
+        from_reads (holding_none γ m) (salt m) (count m) (last_time γ m) (groups γ m) none 0 (repeated (page_size γ) 0) (page_dropped σ m v.size)
+        v.least v.most v.time (back_unused (holding_none γ m) i) (i.reserved ∙ v.reserved) (λ n. absurd (n refl)) (λ e. (refl, refl))
 
     -- with a page held or none
     pub updates_few : update_count γ m ≤ most_updates
@@ -297,7 +302,8 @@ module _ {γ : Geometry} (σ : Proper γ) where
         ∙ repeated_within m from (time_start γ - from) (count_size * (g - groups γ m)) count_size 0 (omega arith) v.unused)
 
   -- the memory of formatting
-  pub valid_formatted : (f : Settings) → Storable γ f → 1 ≤ f.groups → f.groups ≤ γ.most_groups → valid γ (formatted_memory γ f) ≡ true
-  valid_formatted f ready least most =
-      let zeros = formatted_zeros σ f ready f.groups most in
-      from_reads (formatted_reads σ f ready) least most (omega arith) zeros.0 zeros.1 (λ n. absurd (n refl)) (λ e. (refl, refl))
+  pub valid_formatted : (g : ℕ) (s : List ℕ) → 1 ≤ g → g ≤ γ.most_groups → length s ≡ salt_size → valid γ (formatted_memory γ g s) ≡ true
+  valid_formatted g s least most size =
+      let zeros = formatted_zeros σ g s size most in
+      from_reads (formatted_memory γ g s) s (λ k. 0) 0 g none 0 (repeated (page_size γ) 0) (formatted_reads σ g s (omega arith) size)
+      least most (omega arith) zeros.0 zeros.1 (λ n. absurd (n refl)) (λ e. (refl, refl))

@@ -4,9 +4,7 @@ use Rattle.lockpage.specs.Geometry.{Geometry}
 use Rattle.lockpage.specs.Size.{page_size}
 use Rattle.lockpage.specs.Update.{latest_time}
 use Rattle.memory.specs.Layout.{salt_size, count_size}
-use Rattle.memory.specs.Memory.{Settings, count, groups, held, none, most_updates, with_salt, with_count, with_no_counts, with_last_time, holding, holding_none}
-use Rattle.memory.specs.Memory.{formatted_memory}
-use Rattle.memory.specs.Ready.{Storable}
+use Rattle.memory.specs.Memory.{count, groups, held, none, most_updates, with_salt, with_count, with_no_counts, with_last_time, holding, holding_none, formatted_memory}
 use Rattle.validity.specs.Valid.{count_limit, valid}
 
 -- γ is the box's geometry
@@ -28,7 +26,7 @@ module _ (γ : Geometry) where
 
   -- the memory of formatting is valid
   unfoldable pub FormattedIsValid : Type 0
-  FormattedIsValid = (f : Settings) → Storable γ f → 1 ≤ f.groups → f.groups ≤ γ.most_groups → valid γ (formatted_memory γ f) ≡ true
+  FormattedIsValid = (g : ℕ) (s : List ℕ) → 1 ≤ g → g ≤ γ.most_groups → length s ≡ salt_size → valid γ (formatted_memory γ g s) ≡ true
 
   -- "counts of groups from G on .. are 0"
   unfoldable pub UnusedCounts : Type 0

@@ -97,12 +97,12 @@ module _ {γ : Geometry} (σ : Proper γ) where
 
   pub first_put_is_accepted : FirstPutIsAccepted γ
   unfolding FirstPutIsAccepted
-  first_put_is_accepted s f lock part now content a k p t size some_entries some_blocks =
+  first_put_is_accepted s g salt lock part now content a k p t size some_entries some_blocks =
       let r =
-      fresh_put f.groups lock now (format γ s f).box (formatted σ s f a) (start_limits lock k) t some_entries some_blocks part content p size in
+      fresh_put g lock now (format γ s g salt).box (formatted σ s g salt a) (start_limits lock k) t some_entries some_blocks part content p size in
       (ap (λ (x : Result). x.number) r, ap (λ (x : Result). x.block) r)
 
   pub first_flush_is_accepted : FirstFlushIsAccepted γ
   unfolding FirstFlushIsAccepted
-  first_flush_is_accepted s f lock part block now a k t some_entries some_blocks =
-      fresh_flush f.groups lock now (format γ s f).box (formatted σ s f a) (start_limits lock k) t some_entries some_blocks part block
+  first_flush_is_accepted s g salt lock part block now a k t some_entries some_blocks =
+      fresh_flush g lock now (format γ s g salt).box (formatted σ s g salt a) (start_limits lock k) t some_entries some_blocks part block

@@ -20,7 +20,7 @@ use Rattle.lockpage.proofs.EntryLaw.{frozen_yes, frozen_no}
 use Rattle.lockpage.proofs.StateLaw.{state_free}
 use Rattle.lockpage.proofs.UpdateLaw.{written_flag, written_word, within_lock}
 use Rattle.addressing.specs.Map.{disk_size, data_blocks}
-use Rattle.memory.specs.Memory.{Settings, count, last_time, groups}
+use Rattle.memory.specs.Memory.{count, last_time, groups}
 use Rattle.validity.specs.Valid.{count_limit}
 use Rattle.validity.proofs.ValidLaw.{facts}
 use Rattle.machine.specs.Command.{Box}
@@ -119,12 +119,12 @@ module _ {γ : Geometry} (σ : Proper γ) where
     pub counts : (k : ℕ) → k < g → count s.memory k ≡ 0
     pub entries : (a : ℕ) → a < data_blocks γ g → current_entry γ s a ≡ blank_entry
 
-  pub formatted : (s : Box) (f : Settings) → (format γ s f).number ≡ 0 → Fresh f.groups (format γ s f).box
-  formatted s f a =
-      let fmt = formats σ s f in
+  pub formatted : (s : Box) (g : ℕ) (salt : List ℕ) → (format γ s g salt).number ≡ 0 → Fresh g (format γ s g salt).box
+  formatted s g salt a =
+      let fmt = formats σ s g salt in
       let r = fmt.reads a in
       let v = fmt.valid a in
-      let b = (format γ s f).box in
+      let b = (format γ s g salt).box in
       record {
         valid = v;
         same_groups = r.groups;

@@ -92,6 +92,6 @@ module _ {γ : Geometry} (σ : Proper γ) where
 
   pub full_put_is_accepted : FullPutIsAccepted γ
   unfolding FullPutIsAccepted
-  full_put_is_accepted s f lock part now content records a k p t size last some_entries some_blocks =
-      full_put f.groups lock part now content records (format γ s f).box (formatted σ s f a) (start_limits lock k) t some_entries some_blocks p size
+  full_put_is_accepted s g salt lock part now content records a k p t size last some_entries some_blocks =
+      full_put g lock part now content records (format γ s g salt).box (formatted σ s g salt a) (start_limits lock k) t some_entries some_blocks p size
       last

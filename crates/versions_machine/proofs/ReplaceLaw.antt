@@ -133,11 +133,10 @@ module _ {γ : Geometry} (σ : Proper γ) where
 
   pub replacing_put_is_accepted : ReplacingPutIsAccepted γ
   unfolding ReplacingPutIsAccepted
-  replacing_put_is_accepted s settings lock part first second old content a k p order t old_size size some_entries some_blocks =
-      let g = settings.groups in
+  replacing_put_is_accepted s g salt lock part first second old content a k p order t old_size size some_entries some_blocks =
       let ρ = whole_box γ g in
-      let x = (format γ s settings).box in
-      let f = formatted σ s settings a in
+      let x = (format γ s g salt).box in
+      let f = formatted σ s g salt a in
       let limits = start_limits lock k in
       let ν = entered (start first_block lock) part 1 in
       let s1 = (step γ x (given γ x (writing 1 first lock old))).box in

@@ -15,7 +15,7 @@ use Rattle.machine.specs.Run.{Event, Given, Queried}
 use Rattle.machine.specs.Claims.{ByteBox}
 use Rattle.machine.specs.Question.{Question, questions, first_no, AllYes}
 use Rattle.machine.specs.Tag.{current_entry}
-use Rattle.memory.specs.Memory.{Settings, count, groups}
+use Rattle.memory.specs.Memory.{count, groups}
 use Rattle.versions_machine.specs.Versions.{Range, Record, Versions, versions_of, start, start_questions, entered}
 use Rattle.versions_machine.specs.Log.{records_per_block}
 use Rattle.versions_machine.specs.Allocation.{next_for, first_block, whole_box}
@@ -142,29 +142,29 @@ module _ (γ : Geometry) (ρ : Range) where
 module _ (γ : Geometry) where
   -- on a formatted box, a store's first put is accepted, and answers block 1
   unfoldable pub FirstPutIsAccepted : Type 0
-  FirstPutIsAccepted = (s : Box) (f : Settings) (lock part now : ℕ) (content : List ℕ) → (format γ s f).number ≡ 0
+  FirstPutIsAccepted = (s : Box) (g : ℕ) (salt : List ℕ) (lock part now : ℕ) (content : List ℕ) → (format γ s g salt).number ≡ 0
       → first_no (start_questions lock) ≡ 0 → part ≤ last_part → now ≤ latest_time → length content ≡ block_size γ
-      → 3 ≤ γ.entries → 3 ≤ data_blocks γ f.groups
-      → ((put γ (whole_box γ f.groups) (start first_block lock) (format γ s f).box part now content).number ≡ 0)
-      × ((put γ (whole_box γ f.groups) (start first_block lock) (format γ s f).box part now content).block ≡ 1)
+      → 3 ≤ γ.entries → 3 ≤ data_blocks γ g
+      → ((put γ (whole_box γ g) (start first_block lock) (format γ s g salt).box part now content).number ≡ 0)
+      × ((put γ (whole_box γ g) (start first_block lock) (format γ s g salt).box part now content).block ≡ 1)
 
   -- the next put of that part replaces the version, and is accepted too: it answers block 2
   unfoldable pub ReplacingPutIsAccepted : Type 0
-  ReplacingPutIsAccepted = (s : Box) (f : Settings) (lock part first second : ℕ) (old content : List ℕ) → (format γ s f).number ≡ 0
+  ReplacingPutIsAccepted = (s : Box) (g : ℕ) (salt : List ℕ) (lock part first second : ℕ) (old content : List ℕ) → (format γ s g salt).number ≡ 0
       → first_no (start_questions lock) ≡ 0 → part ≤ last_part → first ≤ second → second ≤ latest_time → length old ≡ block_size γ
-      → length content ≡ block_size γ → 4 ≤ γ.entries → 4 ≤ data_blocks γ f.groups
-      → let x = calls γ (whole_box γ f.groups) (start_site γ (whole_box γ f.groups) lock (format γ s f).box) (PutPart part first old ∷ []) in
-      ((put_at γ (whole_box γ f.groups) x part second content).number ≡ 0) × ((put_at γ (whole_box γ f.groups) x part second content).block ≡ 2)
+      → length content ≡ block_size γ → 4 ≤ γ.entries → 4 ≤ data_blocks γ g
+      → let x = calls γ (whole_box γ g) (start_site γ (whole_box γ g) lock (format γ s g salt).box) (PutPart part first old ∷ []) in
+      ((put_at γ (whole_box γ g) x part second content).number ≡ 0) × ((put_at γ (whole_box γ g) x part second content).block ≡ 2)
 
   -- and so is a put whose record fills a log block: of a store that has all the other records, and no part yet
   unfoldable pub FullPutIsAccepted : Type 0
-  FullPutIsAccepted = (s : Box) (f : Settings) (lock part now : ℕ) (content : List ℕ) (records : List Record)
-      → (format γ s f).number ≡ 0 → first_no (start_questions lock) ≡ 0 → part ≤ last_part → now ≤ latest_time → length content ≡ block_size γ
-      → length records + 1 ≡ records_per_block γ → 3 ≤ γ.entries → 3 ≤ data_blocks γ f.groups
-      → (put γ (whole_box γ f.groups) (versions_of lock (λ p. none) records first_block first_block) (format γ s f).box part now content).number ≡ 0
+  FullPutIsAccepted = (s : Box) (g : ℕ) (salt : List ℕ) (lock part now : ℕ) (content : List ℕ) (records : List Record)
+      → (format γ s g salt).number ≡ 0 → first_no (start_questions lock) ≡ 0 → part ≤ last_part → now ≤ latest_time → length content ≡ block_size γ
+      → length records + 1 ≡ records_per_block γ → 3 ≤ γ.entries → 3 ≤ data_blocks γ g
+      → (put γ (whole_box γ g) (versions_of lock (λ p. none) records first_block first_block) (format γ s g salt).box part now content).number ≡ 0
 
   -- and a store on demand, of a store that has one record
   unfoldable pub FirstFlushIsAccepted : Type 0
-  FirstFlushIsAccepted = (s : Box) (f : Settings) (lock part block now : ℕ) → (format γ s f).number ≡ 0
-      → first_no (start_questions lock) ≡ 0 → now ≤ latest_time → 3 ≤ γ.entries → 3 ≤ data_blocks γ f.groups
-      → (flush γ (whole_box γ f.groups) (entered (start first_block lock) part block) (format γ s f).box now).number ≡ 0
+  FirstFlushIsAccepted = (s : Box) (g : ℕ) (salt : List ℕ) (lock part block now : ℕ) → (format γ s g salt).number ≡ 0
+      → first_no (start_questions lock) ≡ 0 → now ≤ latest_time → 3 ≤ γ.entries → 3 ≤ data_blocks γ g
+      → (flush γ (whole_box γ g) (entered (start first_block lock) part block) (format γ s g salt).box now).number ≡ 0

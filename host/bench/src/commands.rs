@@ -13,7 +13,7 @@
 use crate::{aligned_disk, median};
 #[cfg(official)]
 use crate::official;
-use sockjade_host::controller::{self, Command, Digest, Memory, Present};
+use sockjade_host::controller::{self, Command, Digest, Memory, Message, PRESENT};
 use sockjade_host::archive;
 use std::hint::black_box;
 use std::ops::Range;
@@ -69,7 +69,7 @@ impl Controller for Host {
 /// Apart from the loop, as the archive is.
 #[inline(never)]
 fn by_host(memory: &mut [u8], disk: &mut [u8], c: &Command, answer: &mut [u8]) -> u32 {
-    controller::command::<Present, Tags>(memory, disk, c, answer)
+    controller::command::<PRESENT, Tags>(memory, disk, c, answer)
 }
 
 /// What the host's controller makes tags with: the official portable code where it is installed.
@@ -79,14 +79,14 @@ const TAGS: &str = if cfg!(official) { "official portable BLAKE3" } else { "its 
 
 impl Digest for Tags {
     #[cfg(official)]
-    fn digest(message: &[u8]) -> [u8; 32] {
+    fn digest(message: &Message) -> [u8; 32] {
         let mut out = [0; 32];
         official::portable(message, &mut out);
         out
     }
 
     #[cfg(not(official))]
-    fn digest(message: &[u8]) -> [u8; 32] {
+    fn digest(message: &Message) -> [u8; 32] {
         sockjade_host::blake3::digest(message)
     }
 }
@@ -108,9 +108,9 @@ struct Timed {
 
 impl Timed {
     fn new(total: Total, groups: u32) -> Timed {
-        let mut memory = vec![0; Memory::<Present>::SIZE];
+        let mut memory = vec![0; Memory::<PRESENT>::SIZE];
         let disk = aligned_disk(groups as usize);
-        assert_eq!(controller::format::<Present>(&mut memory, disk, groups, &[7; 32], &[5; 16]), 0);
+        assert_eq!(controller::format::<PRESENT>(&mut memory, disk, groups, &[7; 32]), 0);
         let (current, answer) = (vec![0; 544], vec![0; 544]);
         let copies = vec![memory.clone(); COPIES as usize];
         let mut made = Timed { total, memory, copies, disk, group: groups - 1, current, answer };
@@ -141,7 +141,7 @@ impl Timed {
     fn leaving(&mut self, kind: u32) -> [f64; 3] {
         let (one, last) = (UPDATES - 2, UPDATES - 1);
         let times = [0..one, one..last, last..UPDATES].map(|calls| (self.total)(self, kind, calls));
-        let memory = Memory::<Present>::of(&self.memory).expect("a memory of its size");
+        let memory = Memory::<PRESENT>::of(&self.memory).expect("a memory of its size");
         assert_eq!(memory.held(), None, "the page has not left");
         times
     }

@@ -7,7 +7,7 @@
 //! is timed is the calls alone.
 use crate::median;
 use sockjade_host::checks::lists::{box_of, List, NONE, NOW};
-use sockjade_host::controller::Present;
+use sockjade_host::controller::PRESENT;
 use sockjade_host::{archive, controller};
 use std::hint::black_box;
 use std::time::Instant;
@@ -19,7 +19,7 @@ const GROUP: u32 = 5;
 type States = fn(&mut [u8], &[u8], &[u8], u32, &mut [u8]) -> u64;
 
 fn host(memory: &mut [u8], disk: &[u8], blocks: &[u8], now: u32, answer: &mut [u8]) -> u64 {
-    archive::outcome(controller::states::<Present>(memory, disk, blocks, now, answer))
+    archive::outcome(controller::states::<PRESENT>(memory, disk, blocks, now, answer))
 }
 
 const PLACES: usize = 4096;

@@ -6,7 +6,7 @@
 //! put, at that time, so that it takes every record; nothing is reset, and what is timed is the calls alone.
 use crate::commands::Tags;
 use crate::median;
-use sockjade_host::controller::{self, Command, Memory, Present, SYNC};
+use sockjade_host::controller::{self, Command, Memory, PRESENT, SYNC};
 use sockjade_host::{archive, recovery, versions};
 use std::hint::black_box;
 use std::time::Instant;
@@ -37,21 +37,21 @@ struct Timed {
 impl Timed {
     /// A store with this lock puts so many parts by turns, a second after the other, up to so many log blocks or until the box is full.
     fn new(name: &'static str, groups: u32, lock: u32, parts: u32, most: usize) -> Timed {
-        let (mut state, mut memory) = (vec![0; 1536], vec![0; Memory::<Present>::SIZE]);
+        let (mut state, mut memory) = (vec![0; 1536], vec![0; Memory::<PRESENT>::SIZE]);
         let mut disk = vec![0x5A; 33_280 * groups as usize];
-        assert_eq!(controller::format::<Present>(&mut memory, &mut disk, groups, &[7; 32], &[5; 16]), 0);
+        assert_eq!(controller::format::<PRESENT>(&mut memory, &mut disk, groups, &[7; 32]), 0);
         assert_eq!(versions::start(&mut state, lock), 0);
         let mut puts = 0;
         while puts < most * LOG_RECORDS {
             let (part, now) = (puts as u32 % parts, START + puts as u32);
-            if versions::put::<Present, Tags>(&mut state, &mut memory, &mut disk, part, now, &[0xA5; 512]).is_err() {
+            if versions::put::<PRESENT, Tags>(&mut state, &mut memory, &mut disk, part, now, &[0xA5; 512]).is_err() {
                 break;
             }
             puts += 1;
         }
         let now = START + puts as u32;
         let sync = Command { kind: SYNC, block: 0, now, value: 0, data: &[], proof: &[] };
-        assert_eq!(controller::command::<Present, Tags>(&mut memory, &mut disk, &sync, &mut [0; 544]), 0);
+        assert_eq!(controller::command::<PRESENT, Tags>(&mut memory, &mut disk, &sync, &mut [0; 544]), 0);
         let log = puts / LOG_RECORDS;
         Timed { name, memory, disk, now, log, calls: 640_usize.div_ceil(log), room: vec![0; PLACES + RESULT] }
     }
@@ -84,7 +84,7 @@ pub fn run() {
         let ours = boxes.each_mut().map(|timed| timed.walked(round, archive::recover));
         let short = ours[0] / boxes[0].log as f64;
         for (place, timed) in boxes.iter_mut().enumerate() {
-            to_host[place].push(timed.walked(round, recovery::recover::<Present>) / ours[place]);
+            to_host[place].push(timed.walked(round, recovery::recover::<PRESENT>) / ours[place]);
             to_short[place].push(ours[place] / timed.log as f64 / short);
         }
     }

@@ -6,7 +6,7 @@
 //! to what it was, outside of what is timed, which is the calls alone.
 use crate::commands::Tags;
 use crate::median;
-use sockjade_host::controller::{Memory, Present, PAGE, SYNC, UNFREEZE, WRITE};
+use sockjade_host::controller::{Memory, PAGE, PRESENT, SYNC, UNFREEZE, WRITE};
 use sockjade_host::{archive, controller, versions};
 use std::hint::black_box;
 use std::time::Instant;
@@ -33,21 +33,21 @@ fn ours(s: &mut Store, part: u32, now: u32) -> u64 {
 }
 
 fn host(s: &mut Store, part: u32, now: u32) -> u64 {
-    let put = versions::put::<Present, Tags>(&mut s.state, &mut s.memory, &mut s.disk, part, now, black_box(&CONTENT));
+    let put = versions::put::<PRESENT, Tags>(&mut s.state, &mut s.memory, &mut s.disk, part, now, black_box(&CONTENT));
     archive::outcome(put.map_err(|refusal| refusal.number))
 }
 
 impl Store {
     /// An empty box, but for a version of each part in the blocks from 1 on, and a log that was just begun.
     fn new(groups: usize) -> Store {
-        let memory = vec![0; Memory::<Present>::SIZE];
+        let memory = vec![0; Memory::<PRESENT>::SIZE];
         let mut made = Store { state: vec![0; 1536], memory, disk: vec![0x5A; 33_280 * groups] };
-        assert_eq!(controller::format::<Present>(&mut made.memory, &mut made.disk, groups as u32, &[7; 32], &[5; 16]), 0);
+        assert_eq!(controller::format::<PRESENT>(&mut made.memory, &mut made.disk, groups as u32, &[7; 32]), 0);
         assert_eq!(versions::start(&mut made.state, LOCK), 0);
         for part in 0..PARTS {
             assert_eq!(host(&mut made, part, START) as u32, 0);
         }
-        assert_eq!(versions::flush::<Present, Tags>(&mut made.state, &mut made.memory, &mut made.disk, START), Ok(()));
+        assert_eq!(versions::flush::<PRESENT, Tags>(&mut made.state, &mut made.memory, &mut made.disk, START), Ok(()));
         made.command(SYNC, 0, &[], &[]);
         made
     }
@@ -69,7 +69,7 @@ impl Store {
 
     /// Nanoseconds for an accepted command of the archive, and its answer.
     fn command(&mut self, kind: u32, block: u32, data: &[u8], proof: &[u8]) -> (f64, [u8; 544]) {
-        let now = Memory::<Present>::of(&self.memory).expect("a memory of its size").last_time();
+        let now = Memory::<PRESENT>::of(&self.memory).expect("a memory of its size").last_time();
         let mut answer = [0; 544];
         let began = Instant::now();
         let number = archive::command(&mut self.memory, &mut self.disk, kind, block, now, LOCK, data, proof, &mut answer);

@@ -3,7 +3,7 @@
 //! have. It stops at the first difference; a run is a function of its seed. The last line has the counts for the gate.
 use sockjade_host::checks::pair::Pair;
 use sockjade_host::checks::report::{Check, Report};
-use sockjade_host::checks::{edges, effects, leaving, lengths, limits, lists, order, pages, runs, serials, stack, validity};
+use sockjade_host::checks::{edges, effects, leaving, lengths, limits, lists, order, pages, runs, stack, validity};
 use std::process::ExitCode;
 
 const SEED: u64 = 1;
@@ -14,12 +14,11 @@ fn main() -> ExitCode {
         return ExitCode::FAILURE;
     };
     let (seed, count) = (report.seed, report.count);
-    let checks: [Check<Pair>; 22] = [
+    let checks: [Check<Pair>; 20] = [
         &|_| edges::check(),
         &|_| effects::check(),
         &|_| lists::hand::check(),
         &|_| leaving::hand::check(),
-        &|_| serials::hand::check(),
         &|_| leaving::stores::check(),
         &lengths::check,
         &validity::check,
@@ -27,7 +26,6 @@ fn main() -> ExitCode {
         &order::check_formatting,
         &limits::check,
         &pages::check,
-        &|pair| serials::crossed::check(pair, seed),
         &leaving::between::check,
         &leaving::turns::check,
         &lists::order::check,

@@ -1,24 +1,19 @@
 //! The archive alone, for what is checked by hand.
-use super::places::SERIAL;
 use crate::archive;
 
-/// A box of one or more groups with a zero salt and a serial, with the answer of the last command.
+/// A box of one or more groups with a zero salt, with the answer of the last command.
 #[derive(Clone)]
 pub struct Archive {
-    pub memory: [u8; 824],
+    pub memory: [u8; 808],
     pub disk: Vec<u8>,
     pub answer: [u8; 544],
 }
 
 impl Archive {
     pub fn formatted(groups: u32) -> Result<Archive, String> {
-        Archive::with_serial(groups, &SERIAL)
-    }
-
-    pub fn with_serial(groups: u32, serial: &[u8; 16]) -> Result<Archive, String> {
         let mut made =
-            Archive { memory: [0xAA; 824], disk: vec![0xBB; 33_280 * groups as usize], answer: [0xCC; 544] };
-        let number = archive::format(&mut made.memory, &mut made.disk, groups, &[0; 32], serial);
+            Archive { memory: [0xAA; 808], disk: vec![0xBB; 33_280 * groups as usize], answer: [0xCC; 544] };
+        let number = archive::format(&mut made.memory, &mut made.disk, groups, &[0; 32]);
         numbered(&format!("formatting {groups} groups"), number, 0)?;
         Ok(made)
     }
@@ -28,28 +23,18 @@ impl Archive {
     pub fn gets(&mut self, kind: u32, block: u32, now: u32, value: u32, number: u32) -> Result<(), String> {
         let mut proof = Vec::new();
         if (4..=6).contains(&kind) && block < 64 * self.memory[292] as u32 {
-            proof = self.page(block / 64)?.to_vec();
+            let last = u32::from_le_bytes(self.memory[288..292].try_into().unwrap());
+            self.gets(3, block / 64, last, 0, 0)?;
+            proof = self.answer.to_vec();
         }
-        self.brings(kind, block, now, value, &proof, number)
-    }
-
-    /// The same with this proof.
-    pub fn brings(&mut self, kind: u32, block: u32, now: u32, value: u32, proof: &[u8], number: u32) -> Result<(), String> {
         let data: &[u8] = match kind {
             4 => &[0x44; 512],
             9 => &[0x99; 32],
             _ => &[],
         };
         let Archive { memory, disk, answer } = self;
-        let got = archive::command(memory, disk, kind, block, now, value, data, proof, answer);
+        let got = archive::command(memory, disk, kind, block, now, value, data, &proof, answer);
         numbered(&format!("{kind} {block} {now} {value}"), got, number)
-    }
-
-    /// A group's page and tag, as kind 3 answers them at the last time.
-    pub fn page(&mut self, group: u32) -> Result<[u8; 544], String> {
-        let last = u32::from_le_bytes(self.memory[288..292].try_into().unwrap());
-        self.gets(3, group, last, 0, 0)?;
-        Ok(self.answer)
     }
 
     /// Kind 2 answers these 17 bytes and then zeros.

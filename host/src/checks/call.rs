@@ -60,20 +60,14 @@ pub fn put_number(bytes: &mut [u8], at: usize, number: u32) {
 /// The group's current page.
 pub fn page<'a>(memory: &'a [u8], disk: &'a [u8], group: usize) -> &'a [u8] {
     if places::held(memory) == group {
-        return places::held_page(memory);
+        return &memory[places::of(memory).page..];
     }
     &disk[512 * (65 * group + 64)..][..512]
 }
 
-/// A page with its tag under the serial, the salt and the group's count.
+/// A page with its tag under the salt and the group's count.
 pub fn proof(memory: &[u8], group: usize, page: &[u8]) -> Vec<u8> {
-    proof_with(places::serial(memory), memory, group, page)
-}
-
-/// The same under another serial; with none, the tag is that of an old box.
-pub fn proof_with(serial: &[u8], memory: &[u8], group: usize, page: &[u8]) -> Vec<u8> {
     let mut hasher = blake3::Hasher::default();
-    hasher.update(serial);
     hasher.update(&memory[..32]);
     hasher.update(&(group as u64).to_le_bytes());
     hasher.update(&memory[COUNTS + 4 * group..][..4]);

@@ -1,9 +1,7 @@
 //! Document 01's edge values, with the full seconds of document 02's Q-2, on the archive alone and with
 //! bytes that are written out here.
 use super::alone::{same, Archive};
-use super::places::SERIAL;
 use super::Checked;
-use crate::blake3::printed;
 
 pub fn check() -> Checked {
     formatting()?;
@@ -19,14 +17,13 @@ pub fn check() -> Checked {
     Ok("edge values by hand".into())
 }
 
-/// A memory of one group, zero salt and a serial, blank entries, data blocks as they were; and the tag of the
+/// A memory of one group and zero salt, blank entries, data blocks as they were; and the tag of the
 /// blank page, by b3sum.
 fn formatting() -> Result<(), String> {
     let mut a = Archive::formatted(1)?;
     same("the formatted memory", &a.memory[..292], &[0; 292])?;
     same("the formatted memory", &a.memory[292..296], &[1, 255, 0, 0])?;
-    same("the formatted memory", &a.memory[296..808], &[0; 512])?;
-    same("the serial", &a.memory[808..], &SERIAL)?;
+    same("the formatted memory", &a.memory[296..], &[0; 512])?;
     same("the data blocks", &a.disk[..32_768], &[0xBB; 32_768])?;
     same("the blank page", &a.disk[32_768..], &[0, 0, 0, 0, 1, 0, 0, 0].repeat(64))?;
     a.gets(3, 0, 0, 0, 0)?;
@@ -37,8 +34,11 @@ fn formatting() -> Result<(), String> {
     same("identify", &a.answer[8..], &[0; 536])
 }
 
-/// What b3sum says of the serial, 44 zero bytes and the blank page.
-const BLANK_TAG: [u8; 32] = printed("568c0a44fad0566a1b14c19b07a9fdc680db541cf262f3348f7b17d2190dc256");
+/// What b3sum says of 44 zero bytes and the blank page.
+const BLANK_TAG: [u8; 32] = [
+    0xF8, 0xF3, 0x06, 0xAF, 0xB7, 0x85, 0x41, 0x59, 0x85, 0x0A, 0xB1, 0x88, 0xEE, 0x3A, 0xD9, 0x5C, 0x42, 0xAD, 0x1B,
+    0x1D, 0x4C, 0x2B, 0xB2, 0xA0, 0x66, 0xCB, 0xA0, 0x55, 0xA9, 0x5F, 0x37, 0x07,
+];
 
 /// Blocks and where they lie, and the last group's page: 63 lies at 63, 64 at 65, 1,023 at 1,038; the page of group 15 at 1,039.
 fn places(groups: u32, blocks: [(u32, usize); 3], last_page: usize) -> Result<(), String> {

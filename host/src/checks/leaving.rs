@@ -41,7 +41,7 @@ impl Tally {
             updates => [self.group as u8, updates as u8, 0],
         };
         let at = pair.model.places;
-        let (front, page) = (&pair.memory()[..at.page], places::held_page(pair.memory()));
+        let (front, page) = pair.memory().split_at(at.page);
         if front[at.held..] != right {
             return Err(format!("command {}: both have {:?} from byte {} on, not {right:?}", pair.index, &front[at.held..], at.held));
         }

@@ -28,7 +28,7 @@ pub fn check(pair: &mut Pair) -> Checked {
 }
 
 fn around(right: usize) -> Vec<usize> {
-    let mut list = vec![0, 1, 31, 32, 33, 511, 512, 513, 543, 544, 545, 616, 808, 33_280, 3 * 33_280];
+    let mut list = vec![0, 1, 31, 32, 33, 511, 512, 513, 543, 544, 545, 33_280, 3 * 33_280];
     list.extend([right.saturating_sub(1), right, right + 1, right + 64, right + 512]);
     list
 }

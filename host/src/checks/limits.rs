@@ -1,7 +1,7 @@
 //! Times, blocks, counts, locks and values at their limits.
-use super::call::{even_page, put_number, Call, GROUP, LATEST};
+use super::call::{even_page, put_number, Call, GROUP, LATEST, MEMORY};
 use super::pair::Pair;
-use super::places::{held_page_mut, PRESENT};
+use super::places::PRESENT;
 use super::Checked;
 
 const HIGHEST_COUNT: u32 = u32::MAX - 1;
@@ -37,7 +37,7 @@ const UPDATES: [(u32, u32, u32, u32, u32, u32); 24] = [
 
 /// A box, none held, whose pages have all entries alike.
 fn box_of(groups: u8, last_time: u32, word: u32, stamp: u32) -> (Vec<u8>, Vec<u8>) {
-    let mut memory = PRESENT.blank();
+    let mut memory = vec![0; MEMORY];
     memory[..32].fill(9);
     memory[PRESENT.groups] = groups;
     memory[PRESENT.held] = 255;
@@ -134,7 +134,7 @@ fn counts(pair: &mut Pair, count: u32) -> Result<(), String> {
         pair.expect(&call, 0)?;
         if (1..=HIGHEST_COUNT).contains(&count) {
             memory[PRESENT.held] = 1;
-            held_page_mut(&mut memory).copy_from_slice(&even_page(word, stamp));
+            memory[PRESENT.page..].copy_from_slice(&even_page(word, stamp));
             // Behind the update the page is still held; or it has left.
             for updates in [1, 63] {
                 memory[PRESENT.updates] = updates;

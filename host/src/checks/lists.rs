@@ -6,9 +6,9 @@ pub mod limits;
 pub mod order;
 pub mod states;
 
-use super::call::{put_number, Call, GROUP};
+use super::call::{put_number, Call, GROUP, MEMORY};
 use super::pair::Pair;
-use super::places::{held_page_mut, COUNTS, PRESENT};
+use super::places::{COUNTS, PRESENT};
 use std::collections::BTreeSet;
 
 const LAST_TIME: u32 = 1000;
@@ -50,7 +50,7 @@ impl List {
 /// below it on the disk too. From one block to the next they are frozen, counting and free at NOW, by
 /// turns.
 pub fn box_of(groups: usize, held: u8) -> (Vec<u8>, Vec<u8>) {
-    let mut memory = PRESENT.blank();
+    let mut memory = vec![0; MEMORY];
     let mut disk: Vec<u8> = (0..groups * GROUP).map(|i| (i % 251) as u8).collect();
     (0..32).for_each(|i| memory[i] = i as u8 + 1);
     (0..groups).for_each(|group| put_number(&mut memory, COUNTS + 4 * group, group as u32 + 1));
@@ -62,7 +62,7 @@ pub fn box_of(groups: usize, held: u8) -> (Vec<u8>, Vec<u8>) {
     }
     if held != NONE {
         memory[PRESENT.updates] = UPDATES;
-        fill_page(held_page_mut(&mut memory), held as u32, 1);
+        fill_page(&mut memory[PRESENT.page..], held as u32, 1);
     }
     (memory, disk)
 }

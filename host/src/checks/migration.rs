@@ -1,5 +1,5 @@
-//! The comparison of migrations, document 02's request Q-7 with the serial of Q-8, and of old boxes with what the archive makes of
-//! them. Its checks are run by `bin/migration.rs`.
+//! The comparison of migrations, document 02's request Q-7, and of old boxes with what the archive makes of them. Its checks are run
+//! by `bin/migration.rs`.
 pub mod clauses;
 pub mod hand;
 pub mod lengths;
@@ -7,11 +7,10 @@ pub mod memories;
 pub mod runs;
 pub mod seen;
 pub mod stack;
-pub mod tags;
 
 use super::call::put_number;
-use super::places::{any_serial, widened, COUNTS, OLD, PRESENT};
-use super::room::{differing, Room};
+use super::places::{widened, COUNTS, OLD, PRESENT};
+use super::room::Room;
 use crate::{archive, controller};
 
 pub const NONE: u8 = 255;
@@ -21,43 +20,38 @@ pub const NONE: u8 = 255;
 #[derive(Default)]
 pub struct Migrations {
     old: Room,
-    serial: Room,
     archive: Room,
     own: Room,
     pub made: usize,
 }
 
 impl Migrations {
-    /// A memory is migrated, with the serial, into a buffer of so many bytes, none of which is zero: it is to get this number, and all
-    /// bytes that follow from it.
-    pub fn expect(&mut self, old: &[u8], serial: &[u8], len: usize, number: u32) -> Result<(), String> {
+    /// A memory is migrated into a buffer of so many bytes, none of which is zero: it is to get this number, and all bytes that
+    /// follow from it.
+    pub fn expect(&mut self, old: &[u8], len: usize, number: u32) -> Result<(), String> {
         self.made += 1;
         let byte = self.made as u8 | 1;
         self.old.put(old, self.made % 7);
-        self.serial.put(serial, self.made % 5);
         for room in [&mut self.archive, &mut self.own] {
             room.fill(len, byte, self.made % 11);
         }
-        let got = archive::migrate(self.old.part(), self.serial.part(), self.archive.part_mut());
-        let own = controller::migrate(old, serial, self.own.part_mut());
-        let place = format!("migration {}, {} bytes and {} of serial into {len}", self.made, old.len(), serial.len());
+        let got = archive::migrate(self.old.part(), self.archive.part_mut());
+        let own = controller::migrate(old, self.own.part_mut());
+        let place = format!("migration {}, {} bytes into {len}", self.made, old.len());
         if [got, own] != [number; 2] {
             return Err(format!("{place}: answered {got}, the host's {own}, and it is {number}"));
         }
-        let [mut read, mut read_serial, mut right] = [(); 3].map(|()| Room::default());
+        let [mut read, mut right] = [Room::default(), Room::default()];
         read.put(old, 0);
-        read_serial.put(serial, 0);
         match number {
-            0 => right.put(&widened(old, serial), 0),
+            0 => right.put(&widened(old), 0),
             _ => right.fill(len, byte, 0),
         }
-        let rooms = [
-            ("old memory", &self.old, &read),
-            ("serial", &self.serial, &read_serial),
-            ("buffer", &self.archive, &right),
-            ("host's buffer", &self.own, &right),
-        ];
-        differing(&rooms).map_or(Ok(()), |difference| Err(format!("{place}: answered {got}, {difference}")))
+        let rooms = [("old memory", &self.old, &read), ("buffer", &self.archive, &right), ("host's buffer", &self.own, &right)];
+        match rooms.iter().find_map(|(name, got, right)| got.difference(right).map(|difference| (name, difference))) {
+            Some((name, difference)) => Err(format!("{place}: answered {got}, {name}: {difference}")),
+            None => Ok(()),
+        }
     }
 }
 
@@ -78,5 +72,5 @@ pub fn old_memory(groups: u8, held: u8) -> Vec<u8> {
 
 /// It is migrated, or refused, by a buffer of the right length.
 pub fn judged(migrations: &mut Migrations, old: &[u8], valid: bool) -> Result<(), String> {
-    migrations.expect(old, &any_serial(migrations.made), PRESENT.size, if valid { 0 } else { 1 })
+    migrations.expect(old, PRESENT.size, if valid { 0 } else { 1 })
 }

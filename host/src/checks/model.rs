@@ -1,6 +1,6 @@
 //! The host's model of a box, old or present, as the comparisons call it.
 use super::places::{self, Places};
-use crate::controller::{self, Command, Kind, OwnDigest};
+use crate::controller::{self, Command, OwnDigest};
 use crate::versions::Refusal;
 use crate::{recovery, versions};
 
@@ -15,7 +15,7 @@ pub struct Model {
     pub places: &'static Places,
     /// The groups of the largest box.
     pub most_groups: usize,
-    pub format: fn(&mut [u8], &mut [u8], u32, &[u8], &[u8]) -> u32,
+    pub format: fn(&mut [u8], &mut [u8], u32, &[u8]) -> u32,
     pub command: Commanded,
     pub states: Listed,
     pub put: Put,
@@ -24,20 +24,20 @@ pub struct Model {
     pub recover: Recovered,
 }
 
-pub const OLD: Model = model::<controller::Old>(&places::OLD);
-pub const PRESENT: Model = model::<controller::Present>(&places::PRESENT);
+pub const OLD: Model = model::<{ controller::OLD }>(&places::OLD);
+pub const PRESENT: Model = model::<{ controller::PRESENT }>(&places::PRESENT);
 
-const fn model<K: Kind>(places: &'static Places) -> Model {
+const fn model<const COUNTS: usize>(places: &'static Places) -> Model {
     Model {
         places,
-        most_groups: K::COUNTS,
-        format: controller::format::<K>,
-        command: controller::command::<K, OwnDigest>,
-        states: controller::states::<K>,
-        put: versions::put::<K, OwnDigest>,
-        flush: versions::flush::<K, OwnDigest>,
-        block: versions::block::<K>,
-        recover: recovery::recover::<K>,
+        most_groups: COUNTS,
+        format: controller::format::<COUNTS>,
+        command: controller::command::<COUNTS, OwnDigest>,
+        states: controller::states::<COUNTS>,
+        put: versions::put::<COUNTS, OwnDigest>,
+        flush: versions::flush::<COUNTS, OwnDigest>,
+        block: versions::block::<COUNTS>,
+        recover: recovery::recover::<COUNTS>,
     }
 }
 

@@ -2,7 +2,7 @@
 //! page whose tag fits: the tester knows the salt.
 use super::call::{even_page, proof, put_number, Call};
 use super::pair::Pair;
-use super::places::{held_page, last_time};
+use super::places::{last_time, PRESENT};
 use super::Checked;
 
 /// An update of `block` with another page and tag than the current ones.
@@ -112,7 +112,7 @@ fn lost(pair: &mut Pair) -> Result<(), String> {
     for count in [0, 2, 0x100, 0x0100_0000, u32::MAX] {
         let mut memory = pair.memory().to_vec();
         put_number(&mut memory, 32, count);
-        let page = held_page(&memory).to_vec();
+        let page = memory[PRESENT.page..].to_vec();
         pair.expect(&with_proof(4, 2, 0, &proof(&memory, 0, &page)), 7)?;
     }
     Ok(())

@@ -1,29 +1,43 @@
 //! The archive's controller and the host's, kept in step: each command and each list goes to both, and
-//! then the numbers, every byte of the six buffers and the canaries around them are compared. Where the
+//! then the numbers, every byte of the five buffers and the canaries around them are compared. Where the
 //! host's is an old box, the archive has the memory that it migrated from it, which is to stay the
-//! old one's but for the counts that are new and the serial; and the two differ in their tags.
-mod old;
-mod side;
-mod tags;
-
+//! old one's but for the counts that are new.
 use super::call::{Call, GROUP};
 use super::lists::List;
 use super::model::{self, Model};
-use super::places::{any_serial, PRESENT, SERIAL};
-use super::room::differing;
+use super::places::{self, PRESENT};
+use super::room::Room;
 use super::table::Table;
 use crate::{archive, controller};
-use side::Side;
-use tags::Tags;
+use std::borrow::Cow;
+
+#[derive(Default)]
+struct Side {
+    memory: Room,
+    disk: Room,
+    data: Room,
+    proof: Room,
+    answer: Room,
+}
+
+impl Side {
+    fn prepare(&mut self, call: &Call, index: usize) {
+        self.proof.put(&call.proof, index % 5);
+        self.prepare_list(&call.data, call.answer_len, index);
+    }
+
+    /// A list lies where other commands have their data.
+    fn prepare_list(&mut self, blocks: &[u8], answer_len: usize, index: usize) {
+        self.data.put(blocks, index % 7);
+        self.answer.fill(answer_len, index as u8 | 1, index % 3);
+    }
+}
 
 #[derive(Default)]
 pub struct Pair {
     archive: Side,
     own: Side,
     pub model: Model,
-    /// What the archive's box got as its serial when an old one was last migrated.
-    serial: [u8; 16],
-    pub tags: Tags,
     /// What was wrong with a migration: the next comparison says so.
     wrong: Option<String>,
     /// How many commands, lists and formattings there were.
@@ -51,8 +65,7 @@ impl Pair {
             return self.archive.memory.put(memory, self.index % 11);
         }
         self.archive.memory.fill(PRESENT.size, self.index as u8 | 1, self.index % 11);
-        self.serial = any_serial(self.index);
-        let number = archive::migrate(self.own.memory.part(), &self.serial, self.archive.memory.part_mut());
+        let number = archive::migrate(self.own.memory.part(), self.archive.memory.part_mut());
         if number != 0 {
             self.wrong = Some(format!("a migration answered {number}"));
         }
@@ -60,17 +73,17 @@ impl Pair {
 
     /// Loads a box as formatting leaves it, of zero data blocks.
     pub fn load_formatted(&mut self, groups: u8, salt: &[u8]) -> Result<(), String> {
-        self.load_formatted_over(&vec![0; GROUP * groups as usize], 0, groups as u32, salt, &SERIAL)
+        self.load_formatted_over(&vec![0; GROUP * groups as usize], 0, groups as u32, salt)
     }
 
-    /// The same on this disk, and a memory of this byte. An old box takes no serial.
-    pub fn load_formatted_over(&mut self, disk: &[u8], byte: u8, groups: u32, salt: &[u8], serial: &[u8]) -> Result<(), String> {
+    /// The same on this disk, and a memory of this byte.
+    pub fn load_formatted_over(&mut self, disk: &[u8], byte: u8, groups: u32, salt: &[u8]) -> Result<(), String> {
         let (mut memory, mut disk) = (vec![byte; self.model.places.size], disk.to_vec());
         if !self.model.is_old() {
             self.load(&memory, &disk);
-            return self.expect_format(groups, salt, serial, 0);
+            return self.expect_format(groups, salt, 0);
         }
-        let number = (self.model.format)(&mut memory, &mut disk, groups, salt, &[]);
+        let number = (self.model.format)(&mut memory, &mut disk, groups, salt);
         self.load(&memory, &disk);
         if number == 0 { Ok(()) } else { Err(format!("formatting {groups} groups of an old box answered {number}")) }
     }
@@ -97,10 +110,10 @@ impl Pair {
         let mut changed = self.memory().to_vec();
         change(&mut changed);
         let mut room = [0x5A; PRESENT.size];
-        if !self.model.is_old() || controller::migrate(&changed, &self.serial, &mut room) == 0 {
+        if !self.model.is_old() || controller::migrate(&changed, &mut room) == 0 {
             return self.load_memory(&changed);
         }
-        let number = archive::migrate(&changed, &self.serial, &mut room);
+        let number = archive::migrate(&changed, &mut room);
         if number != 1 || room != [0x5A; PRESENT.size] {
             self.wrong = Some(format!("a migration that is to be refused answered {number}"));
         }
@@ -127,29 +140,20 @@ impl Pair {
         let Call { kind, block, now, value, .. } = *call;
         let memory_len = call.memory_len.unwrap_or(self.memory().len());
         let disk_len = call.disk_len.unwrap_or(self.disk().len());
-        let (brought, way) = self.brought(call);
-        self.own.prepare(call, &call.proof, self.index);
-        let Side { memory, disk, data, proof, answer, .. } = &mut self.own;
+        self.archive.prepare(call, self.index);
+        self.own.prepare(call, self.index);
+        let archive_len = self.archive_len(memory_len);
+        let Side { memory, disk, data, proof, answer } = &mut self.archive;
+        let (memory, disk) = (memory.view_mut(archive_len), disk.view_mut(disk_len));
+        let (data, proof, answer) = (data.part(), proof.part(), answer.part_mut());
+        let got = archive::command(memory, disk, kind, block, now, value, data, proof, answer);
+        let Side { memory, disk, data, proof, answer } = &mut self.own;
         let (memory, disk) = (memory.view_mut(memory_len), disk.view_mut(disk_len));
         let command = controller::Command { kind, block, now, value, data: data.part(), proof: proof.part() };
         let number = (self.model.command)(memory, disk, &command, answer.part_mut());
-        self.try_old_tag(call, way, number).map_err(|e| format!("{}, {e}", self.describe(call)))?;
-        let got = self.by_archive(call, &brought);
-        self.expect_tags(call, &brought, number);
         self.compare(got, number).map_err(|e| format!("{}, {e}", self.describe(call)))?;
         self.table.command(kind, number, held);
         Ok(number)
-    }
-
-    /// The archive's number for the command with this proof.
-    fn by_archive(&mut self, call: &Call, brought: &[u8]) -> u32 {
-        let Call { kind, block, now, value, .. } = *call;
-        let memory_len = self.archive_len(call.memory_len.unwrap_or(self.memory().len()));
-        let disk_len = call.disk_len.unwrap_or(self.disk().len());
-        self.archive.prepare(call, brought, self.index);
-        let Side { memory, disk, data, proof, answer, .. } = &mut self.archive;
-        let (memory, disk) = (memory.view_mut(memory_len), disk.view_mut(disk_len));
-        archive::command(memory, disk, kind, block, now, value, data.part(), proof.part(), answer.part_mut())
     }
 
     /// A command that is to get this number.
@@ -193,8 +197,6 @@ impl Pair {
         let Side { memory, disk, data, answer, .. } = &mut self.own;
         let (memory, disk) = (memory.view_mut(memory_len), disk.view_mut(disk_len));
         let listed = (self.model.states)(memory, disk, data.part(), list.now, answer.part_mut());
-        // A list answers no tag.
-        self.tags.answer.put(answer.part(), 0);
         self.compare_list(got, archive::outcome(listed)).map_err(|e| format!("{}, {e}", self.describe_list(list)))?;
         self.table.list(listed.err().unwrap_or(0), held);
         Ok(listed)
@@ -209,15 +211,14 @@ impl Pair {
         Err(format!("{}: both answered {listed:?} instead of {right:?}", self.describe_list(list)))
     }
 
-    pub fn expect_format(&mut self, groups: u32, salt: &[u8], serial: &[u8], number: u32) -> Result<(), String> {
+    pub fn expect_format(&mut self, groups: u32, salt: &[u8], number: u32) -> Result<(), String> {
         self.index += 1;
-        self.archive.prepare_formatting(salt, serial, self.index);
-        self.own.prepare_formatting(salt, serial, self.index);
-        let Side { memory, disk, data, serial: room, .. } = &mut self.archive;
-        let got = archive::format(memory.part_mut(), disk.part_mut(), groups, data.part(), room.part());
-        let own = (self.model.format)(self.own.memory.part_mut(), self.own.disk.part_mut(), groups, salt, serial);
-        let lengths = [self.memory().len(), self.disk().len(), salt.len(), serial.len()];
-        let place = format!("command {}, formatting {groups} groups, lengths {lengths:?}", self.index);
+        self.archive.data.put(salt, self.index % 7);
+        self.own.data.put(salt, self.index % 7);
+        let Side { memory, disk, data, .. } = &mut self.archive;
+        let got = archive::format(memory.part_mut(), disk.part_mut(), groups, data.part());
+        let own = (self.model.format)(self.own.memory.part_mut(), self.own.disk.part_mut(), groups, salt);
+        let place = format!("command {}, formatting {groups} groups", self.index);
         self.compare(got, own).map_err(|e| format!("{place}: {e}"))?;
         if own != number {
             return Err(format!("{place}: both answered {own} instead of {number}"));
@@ -241,25 +242,35 @@ impl Pair {
         self.compare_bytes(right as u32)
     }
 
-    /// Every byte of the six buffers and the canaries, after a call that got this number.
+    /// Every byte of the five buffers and the canaries, after a call that got this number.
     pub fn compare_bytes(&self, number: u32) -> Result<(), String> {
         if let Some(wrong) = &self.wrong {
             return Err(wrong.clone());
         }
         let (a, b, memory) = (&self.archive, &self.own, self.expected_memory());
-        let (proof, answer) = match self.model.is_old() {
-            true => (&self.tags.proof, &self.tags.answer),
-            false => (&b.proof, &b.answer),
-        };
         let rooms = [
             ("memory", &a.memory, &*memory),
             ("disk", &a.disk, &b.disk),
             ("data", &a.data, &b.data),
-            ("proof", &a.proof, proof),
-            ("answer", &a.answer, answer),
-            ("serial", &a.serial, &b.serial),
+            ("proof", &a.proof, &b.proof),
+            ("answer", &a.answer, &b.answer),
         ];
-        differing(&rooms).map_or(Ok(()), |e| Err(format!("answered {number}, {e}")))
+        for (name, got, right) in rooms {
+            if let Some(difference) = got.difference(right) {
+                return Err(format!("answered {number}, {name}: {difference}"));
+            }
+        }
+        Ok(())
+    }
+
+    /// What the archive's memory is to be.
+    fn expected_memory(&self) -> Cow<'_, Room> {
+        if !self.model.is_old() {
+            return Cow::Borrowed(&self.own.memory);
+        }
+        let mut wide = Room::default();
+        wide.put(&places::widened(self.memory()), 0);
+        Cow::Owned(wide)
     }
 
     fn describe(&self, call: &Call) -> String {

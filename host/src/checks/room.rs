@@ -74,8 +74,3 @@ impl Room {
         Some(format!("byte {byte} of {} is {:02x} instead of {:02x}", self.len, a[at], b[at]))
     }
 }
-
-/// The first of these rooms that is not what it is to be, with the place.
-pub fn differing(rooms: &[(&str, &Room, &Room)]) -> Option<String> {
-    rooms.iter().find_map(|(name, got, right)| got.difference(right).map(|difference| format!("{name}: {difference}")))
-}

@@ -2,18 +2,18 @@
 use super::call::{put_number, GROUP, LATEST};
 use super::pair::Pair;
 use super::places::COUNTS;
-use super::server::{Crossed, Server};
+use super::server::Server;
 use super::Checked;
 use crate::random::Random;
 
 const COMMANDS: usize = 1000;
-/// In so many boxes some page leaves by itself, and crossed pages come up.
+/// In so many boxes some page leaves by itself.
 const MANY: usize = 50;
 
 pub fn check(pair: &mut Pair, seed: u64, count: usize) -> Checked {
     let mut random = Random::new(seed);
     let mut old = Vec::new();
-    let (mut sent, mut boxes, mut left, mut crossed) = (0, 0, 0, Crossed::default());
+    let (mut sent, mut boxes, mut left) = (0, 0, 0);
     while sent < count {
         let any = 1 + random.below(pair.model.most_groups);
         let groups = [1, 1, 1, 1, 2, 2, 2, 3, 3, any][random.below(10)];
@@ -22,18 +22,13 @@ pub fn check(pair: &mut Pair, seed: u64, count: usize) -> Checked {
         let mut server = Server::new(pair, &mut random, &mut old);
         (0..run).try_for_each(|_| server.step())?;
         left += server.left;
-        crossed.add(&server.crossed);
         sent += run;
         boxes += 1;
     }
     if boxes >= MANY && left == 0 {
         return Err(format!("no page has left by itself in {boxes} boxes"));
     }
-    if let Some(kind) = crossed.missing().filter(|_| boxes >= MANY) {
-        return Err(format!("kind {kind} has brought no crossed page to {boxes} boxes"));
-    }
-    let crossed = crossed.count();
-    Ok(format!("runs: {sent} commands and lists to {boxes} boxes, {left} pages that left by themselves, {crossed} crossed pages"))
+    Ok(format!("runs: {sent} commands and lists to {boxes} boxes, {left} pages that left by themselves"))
 }
 
 /// Fewer where the disk to be compared is long.
@@ -50,13 +45,9 @@ fn commands(groups: usize) -> usize {
 pub fn start(pair: &mut Pair, random: &mut Random, groups: usize) -> Result<(), String> {
     let mut disk = vec![0; GROUP * groups];
     random.fill(&mut disk[..GROUP]);
-    let (mut salt, mut serial) = ([0; 32], [0; 16]);
+    let mut salt = [0; 32];
     random.fill(&mut salt);
-    random.fill(&mut serial);
-    if random.below(8) == 0 {
-        serial.fill([0, 0xFF][random.below(2)]);
-    }
-    pair.load_formatted_over(&disk, random.next() as u8, groups as u32, &salt, &serial)?;
+    pair.load_formatted_over(&disk, random.next() as u8, groups as u32, &salt)?;
     let mut memory = pair.memory().to_vec();
     let mut disk = pair.disk().to_vec();
     if random.below(6) == 0 {

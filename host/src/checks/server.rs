@@ -1,11 +1,9 @@
 //! A server that sends commands to one box at random, and lists: most are good, with the pages that
 //! it keeps and a time that moves on, and some are spoiled.
-mod crossed;
 mod lists;
-pub use crossed::Crossed;
 pub use lists::numbers;
 
-use super::call::{number, page, proof, Call, GROUP, LATEST, UNKNOWN};
+use super::call::{number, page, proof, Call, LATEST, UNKNOWN};
 use super::pair::Pair;
 use super::places::{self, last_time, COUNTS};
 use super::room::GUARD;
@@ -34,14 +32,13 @@ pub struct Server<'a> {
     forgetful: Option<usize>,
     /// How many pages have left by themselves.
     pub left: usize,
-    pub crossed: Crossed,
 }
 
 impl<'a> Server<'a> {
     pub fn new(pair: &'a mut Pair, random: &'a mut Random, old: &'a mut Vec<Vec<u8>>) -> Self {
         let groups = places::groups(pair.memory());
         let forgetful = (random.below(2) == 0).then_some(groups - 1);
-        Server { pair, random, groups, pages: vec![None; groups], old, forgetful, left: 0, crossed: Crossed::default() }
+        Server { pair, random, groups, pages: vec![None; groups], old, forgetful, left: 0 }
     }
 
     pub fn step(&mut self) -> Result<(), String> {
@@ -55,7 +52,6 @@ impl<'a> Server<'a> {
         }
         self.poke(poked);
         let answered = self.pair.command(&call)?;
-        self.crossed.answered(&call, answered, poked.is_some())?;
         if answered == 0 {
             self.keep(&call);
         } else {
@@ -173,7 +169,7 @@ impl<'a> Server<'a> {
 
     /// Makes one thing wrong, or merely unusual. A bit of the memory to be flipped is given back.
     fn spoil(&mut self, call: &mut Call) -> Option<(usize, u8)> {
-        match self.random.below(20) {
+        match self.random.below(19) {
             0 => call.kind = UNKNOWN[self.random.below(UNKNOWN.len())],
             1 => call.kind = self.random.below(12) as u32,
             2 => call.now = self.time(),
@@ -190,7 +186,6 @@ impl<'a> Server<'a> {
             13 => call.proof = self.pages[self.random.below(self.groups)].clone().unwrap_or_default(),
             14 | 15 if (4..=6).contains(&call.kind) => self.forge(call),
             16 => *call = self.present_salt(),
-            19 => self.cross(call),
             17 => return Some(self.header_bit()),
             _ => return Some(self.memory_bit()),
         }
@@ -243,18 +238,13 @@ impl<'a> Server<'a> {
         }
     }
 
-    /// The group's current page, if the box has the group, and the disk, which may be of another length, its page.
-    fn current_page(&self, group: usize) -> Option<Vec<u8>> {
-        let (memory, disk) = (self.pair.memory(), self.pair.disk());
-        (group < self.groups && disk.len() >= GROUP * (group + 1)).then(|| page(memory, disk, group).to_vec())
-    }
-
     /// A page that never was, with a tag that fits.
     fn forge(&mut self, call: &mut Call) {
         let group = call.block as usize / 64;
-        let Some(mut forged) = self.current_page(group) else {
+        if group >= self.groups {
             return;
-        };
+        }
+        let mut forged = page(self.pair.memory(), self.pair.disk(), group).to_vec();
         let entry = &mut forged[8 * (call.block as usize % 64)..][..8];
         self.random.fill(entry);
         if self.random.below(2) == 0 {

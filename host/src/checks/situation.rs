@@ -1,6 +1,6 @@
 //! A box of two groups and a command to it that passes, or one to which chosen questions say no.
-use super::call::{put_number, Call, GROUP, UNKNOWN};
-use super::places::{held_page_mut, PRESENT};
+use super::call::{put_number, Call, GROUP, MEMORY, UNKNOWN};
+use super::places::PRESENT;
 
 /// The block that the commands name, in group 1, and the group for kind 3.
 const BLOCK: u32 = 70;
@@ -81,7 +81,7 @@ pub fn situation(kind: u32, held: u8, no: Questions, turn: usize) -> Situation {
 
 /// Every byte of the disk and of a held page is something, and the command's entry what it is to be.
 fn box_of(kind: u32, held: u8, no: Questions) -> (Vec<u8>, Vec<u8>) {
-    let mut memory = PRESENT.blank();
+    let mut memory = vec![0; MEMORY];
     let mut disk: Vec<u8> = (0..2 * GROUP).map(|i| (i % 253) as u8).collect();
     (0..32).for_each(|i| memory[i] = i as u8 + 1);
     put_number(&mut memory, 32, 5);
@@ -91,9 +91,9 @@ fn box_of(kind: u32, held: u8, no: Questions) -> (Vec<u8>, Vec<u8>) {
     memory[PRESENT.held] = held;
     if held != 255 {
         memory[PRESENT.updates] = UPDATES;
-        held_page_mut(&mut memory).fill(0xE1);
+        memory[PRESENT.page..].copy_from_slice(&[0xE1; 512]);
     }
-    let page = if held == 1 { held_page_mut(&mut memory) } else { &mut disk[129 * 512..] };
+    let page = if held == 1 { &mut memory[PRESENT.page..] } else { &mut disk[129 * 512..] };
     let (word, stamp) = entry(kind, no);
     put_number(page, 8 * (BLOCK as usize % 64), word);
     put_number(page, 8 * (BLOCK as usize % 64) + 4, stamp);

@@ -23,7 +23,7 @@ pub fn check() -> Checked {
         let used = used(&mut paint, &mut || {
             numbers[0] = archive::command(&mut memory, &mut disk, kind, block, now, value, data, proof, &mut answer);
             numbers[1] = archive::states(&mut memory, &disk, &[0; 256], now, &mut shown) as u32;
-            numbers[2] = archive::format(&mut memory, &mut disk, 2, &answer[..32], &answer[..16]);
+            numbers[2] = archive::format(&mut memory, &mut disk, 2, &answer[..32]);
             numbers[3] = archive::digest(&disk[..65_536], &mut answer[..32]);
         });
         if numbers != [0; 4] {
@@ -56,7 +56,7 @@ fn largest(paint: &mut [u8]) -> Result<usize, String> {
         let used = used(paint, &mut || {
             numbers[0] = archive::command(&mut memory, &mut disk, kind, block, now, value, &data, &proof, &mut answer);
             numbers[1] = archive::states(&mut memory, &disk, &list.blocks, NOW, &mut shown) as u32;
-            numbers[2] = archive::format(&mut memory, &mut disk.clone(), 64, &[1; 32], &[2; 16]);
+            numbers[2] = archive::format(&mut memory, &mut disk.clone(), 64, &[1; 32]);
         });
         if numbers != [0; 3] || used > MOST {
             return Err(format!("stack: 64 groups, kind {kind}, a list and formatting answered {numbers:?} and needed {used} bytes"));

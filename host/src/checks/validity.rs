@@ -47,9 +47,7 @@ pub fn changes(held: u8) -> Vec<Change> {
     let mut list = [TIMES.as_slice(), GROUPS.as_slice(), of_held].concat();
     list.extend((40..288).flat_map(|at| [(at, 1, 1, false), (at, 1, 128, false)]));
     list.extend((296..808).flat_map(|at| [(at, 1, 1, held == 1), (at, 1, 128, held == 1)]));
-    // Any salt and any serial will do.
     list.extend((0..32).map(|at| (at, 1, 200, true)));
-    list.extend((808..824).flat_map(|at| [0, 1, 128, 255].map(|byte| (at, 1, byte, true))));
     list
 }
 
@@ -108,7 +106,7 @@ fn sent_each(pair: &mut Pair, held: u8, change: Change, kinds: Vec<u32>) -> Resu
 /// be 0; the held group is to be below G.
 pub fn numbers_of_groups(mut send: impl FnMut(&[u8], &[u8], bool) -> Result<(), String>) -> Result<(), String> {
     for groups in 0..=66u8 {
-        let mut memory = PRESENT.blank();
+        let mut memory = vec![0; PRESENT.size];
         memory[PRESENT.groups] = groups;
         memory[PRESENT.held] = 255;
         let disk = vec![0; groups as usize * 33_280];

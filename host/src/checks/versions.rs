@@ -73,7 +73,7 @@ pub fn box_of(groups: usize, entry: (u32, u32)) -> (Vec<u8>, Vec<u8>) {
 
 /// The same with a memory that has these places.
 pub fn box_with(at: &Places, groups: usize, (word, stamp): (u32, u32)) -> (Vec<u8>, Vec<u8>) {
-    let mut memory = at.blank();
+    let mut memory = vec![0; at.size];
     memory[..32].fill(9);
     put_number(&mut memory, at.last_time, LAST_TIME);
     memory[at.groups] = groups as u8;

@@ -1,17 +1,10 @@
 //! The controller memory: where its fields lie, and which memories are valid. A box of before document 02's Q-7 and one of since
-//! its Q-8 differ in the number of counts, from which the places behind them follow, and in the serial's size.
+//! then differ in the number of counts alone, from which the places behind them follow.
 use std::mem;
 
-/// The kind of a box: how many counts its memory has, as many groups it can have, and how many bytes of serial.
-#[derive(Clone, Copy)]
-pub struct Layout<const COUNTS: usize, const SERIAL: usize>;
-
-/// The counts of the largest box, and the bytes of the longest serial.
-pub const MOST_COUNTS: usize = 64;
-pub const MOST_SERIAL: usize = 16;
-
-pub type Old = Layout<16, 0>;
-pub type Present = Layout<MOST_COUNTS, MOST_SERIAL>;
+/// The counts of a box: as many groups it can have.
+pub const OLD: usize = 16;
+pub const PRESENT: usize = 64;
 
 pub const PAGE_SIZE: usize = 512;
 /// The latest time there is: 2 × time + 1 fits four bytes.
@@ -22,31 +15,16 @@ pub const LAST_COUNT: u32 = 4_294_967_294;
 pub const MOST_UPDATES: u8 = 63;
 
 pub type Page = [u8; PAGE_SIZE];
-pub type Number = [u8; 4];
+type Number = [u8; 4];
 
 const NONE: u8 = 255;
-
-/// A layout, by the fields whose sizes it gives, which are of bytes. There is no other kind.
-pub trait Kind: Copy + 'static {
-    const COUNTS: usize;
-    const NO_COUNTS: &'static Self::Counts;
-    type Counts: Copy + 'static + AsRef<[Number]> + AsMut<[Number]>;
-    type Serial: Copy + AsRef<[u8]> + for<'a> TryFrom<&'a [u8]>;
-}
-
-impl<const COUNTS: usize, const SERIAL: usize> Kind for Layout<COUNTS, SERIAL> {
-    const COUNTS: usize = COUNTS;
-    const NO_COUNTS: &'static Self::Counts = &[[0; 4]; COUNTS];
-    type Counts = [Number; COUNTS];
-    type Serial = [u8; SERIAL];
-}
 
 /// The fields in their order. All are bytes, so there is nothing between them.
 #[derive(Clone, Copy)]
 #[repr(C)]
-pub struct Memory<K: Kind> {
+pub struct Memory<const COUNTS: usize> {
     salt: [u8; 32],
-    counts: K::Counts,
+    counts: [Number; COUNTS],
     last_time: Number,
     groups: u8,
     held: u8,
@@ -54,11 +32,11 @@ pub struct Memory<K: Kind> {
     updates: u8,
     zero: u8,
     page: Page,
-    serial: K::Serial,
 }
 
-impl<K: Kind> Memory<K> {
+impl<const COUNTS: usize> Memory<COUNTS> {
     pub const SIZE: usize = mem::size_of::<Self>();
+    const NO_COUNTS: &'static [Number; COUNTS] = &[[0; 4]; COUNTS];
 
     /// The slice as a memory, if it has the length.
     #[inline]
@@ -74,22 +52,22 @@ impl<K: Kind> Memory<K> {
     }
 
     /// What formatting leaves.
-    pub fn formatted(groups: u8, salt: [u8; 32], serial: K::Serial) -> Self {
-        let (counts, page) = (*K::NO_COUNTS, [0; PAGE_SIZE]);
-        Memory { salt, counts, last_time: [0; 4], groups, held: NONE, updates: 0, zero: 0, page, serial }
+    pub fn formatted(groups: u8, salt: [u8; 32]) -> Self {
+        let (counts, page) = (*Self::NO_COUNTS, [0; PAGE_SIZE]);
+        Memory { salt, counts, last_time: [0; 4], groups, held: NONE, updates: 0, zero: 0, page }
     }
 
-    /// The same fields in a memory of more counts, which are 0, and with this serial: document 02's.
-    pub fn widened<M: Kind>(&self, serial: M::Serial) -> Memory<M> {
+    /// The same fields in a memory of more counts, which are 0: document 02's Q-7.
+    pub fn widened<const MORE: usize>(&self) -> Memory<MORE> {
         let Memory { salt, last_time, groups, held, updates, zero, page, .. } = *self;
-        let mut counts = *M::NO_COUNTS;
-        counts.as_mut()[..K::COUNTS].copy_from_slice(self.counts.as_ref());
-        Memory { salt, counts, last_time, groups, held, updates, zero, page, serial }
+        let mut counts = *Memory::<MORE>::NO_COUNTS;
+        counts[..COUNTS].copy_from_slice(&self.counts);
+        Memory { salt, counts, last_time, groups, held, updates, zero, page }
     }
 
     /// Whether a box may have so many groups.
     pub fn groups_in_range(groups: u32) -> bool {
-        (1..=K::COUNTS as u32).contains(&groups)
+        (1..=COUNTS as u32).contains(&groups)
     }
 
     #[inline]
@@ -98,7 +76,7 @@ impl<K: Kind> Memory<K> {
         if !Self::groups_in_range(groups as u32) || self.last_time() > LATEST || self.zero != 0 {
             return false;
         }
-        if self.counts.as_ref()[groups..].as_flattened() != K::NO_COUNTS.as_ref()[groups..].as_flattened() {
+        if self.counts[groups..].as_flattened() != Self::NO_COUNTS[groups..].as_flattened() {
             return false;
         }
         match self.held() {
@@ -149,21 +127,16 @@ impl<K: Kind> Memory<K> {
         self.salt.copy_from_slice(salt);
     }
 
-    /// The box's serial, which no command changes. An old box has none.
-    pub fn serial(&self) -> &[u8] {
-        self.serial.as_ref()
-    }
-
     pub fn count(&self, group: usize) -> u32 {
-        u32::from_le_bytes(self.counts.as_ref()[group])
+        u32::from_le_bytes(self.counts[group])
     }
 
     pub fn raise_count(&mut self, group: usize) {
-        self.counts.as_mut()[group] = (self.count(group) + 1).to_le_bytes();
+        self.counts[group] = (self.count(group) + 1).to_le_bytes();
     }
 
     pub fn clear_counts(&mut self) {
-        self.counts = *K::NO_COUNTS;
+        self.counts = *Self::NO_COUNTS;
     }
 
     pub fn last_time(&self) -> u32 {

@@ -2,7 +2,7 @@
 //! The numbers are parted by groups first, so that each named group's current page is fetched once,
 //! into the one buffer that there is for a page.
 use super::entry::Entry;
-use super::memory::{Kind, Memory, Page, MOST_COUNTS, PAGE_SIZE};
+use super::memory::{Memory, Page, PAGE_SIZE};
 use super::{ask, ask_box, ask_time, current_page, GROUP_DATA};
 use std::mem;
 
@@ -18,28 +18,28 @@ type Numbers = [[u8; NUMBER_SIZE]];
 
 /// State and time left of each block of the list: the number of pages read, or that of the first
 /// question that said no.
-pub fn states<K: Kind>(
+pub fn states<const COUNTS: usize>(
     memory: &mut [u8],
     disk: &[u8],
     blocks: &[u8],
     now: u32,
     answer: &mut [u8],
 ) -> Result<u32, u32> {
-    let numbers = questions::<K>(memory, disk, blocks, now, answer.len())?;
-    let memory = Memory::<K>::of_mut(memory).unwrap();
+    let numbers = questions::<COUNTS>(memory, disk, blocks, now, answer.len())?;
+    let memory = Memory::<COUNTS>::of_mut(memory).unwrap();
     memory.set_last_time(now);
     Ok(show(memory, disk, numbers, now, answer.as_chunks_mut().0))
 }
 
 /// The questions in order; where all have yes, the list's numbers.
-fn questions<'a, K: Kind>(
+fn questions<'a, const COUNTS: usize>(
     memory: &[u8],
     disk: &[u8],
     blocks: &'a [u8],
     now: u32,
     answer_len: usize,
 ) -> Result<&'a Numbers, u32> {
-    let memory = ask_box::<K>(memory, disk)?;
+    let memory = ask_box::<COUNTS>(memory, disk)?;
     ask_time(memory, now)?;
     let (numbers, rest) = blocks.as_chunks();
     ask(rest.is_empty() && (1..=MOST_NUMBERS).contains(&numbers.len()), 12)?;
@@ -52,14 +52,14 @@ fn questions<'a, K: Kind>(
 }
 
 /// Fills the answer group by group, and says how many pages that took.
-fn show<K: Kind>(
-    memory: &Memory<K>,
+fn show<const COUNTS: usize>(
+    memory: &Memory<COUNTS>,
     disk: &[u8],
     numbers: &Numbers,
     now: u32,
     answer: &mut [[u8; SHOWN_SIZE]],
 ) -> u32 {
-    let mut first = [END; MOST_COUNTS];
+    let mut first = [END; COUNTS];
     let mut next = [END; MOST_NUMBERS];
     let mut named = part(numbers, &mut first, &mut next);
     let mut page = [0; PAGE_SIZE];
@@ -68,7 +68,7 @@ fn show<K: Kind>(
         let group = named.trailing_zeros() as usize;
         named &= named - 1;
         pages += fetch(memory, disk, group, &mut page);
-        let mut place = first[group % MOST_COUNTS];
+        let mut place = first[group % COUNTS];
         while place != END {
             let number = u32::from_le_bytes(numbers[place as usize]);
             answer[place as usize] = shown(Entry::read(&page, (number % GROUP_DATA) as usize), now);
@@ -80,10 +80,10 @@ fn show<K: Kind>(
 
 /// Parts the list's places by groups: from a group's first one leads on to the next, until END. Says
 /// which groups are named, a bit for each.
-fn part(numbers: &Numbers, first: &mut [u8; MOST_COUNTS], next: &mut [u8; MOST_NUMBERS]) -> u64 {
+fn part<const COUNTS: usize>(numbers: &Numbers, first: &mut [u8; COUNTS], next: &mut [u8; MOST_NUMBERS]) -> u64 {
     let mut named = 0;
     for (place, (number, next)) in numbers.iter().zip(next).enumerate() {
-        let group = (u32::from_le_bytes(*number) / GROUP_DATA) as usize % MOST_COUNTS;
+        let group = (u32::from_le_bytes(*number) / GROUP_DATA) as usize % COUNTS;
         *next = mem::replace(&mut first[group], place as u8);
         named |= 1u64 << group;
     }
@@ -91,7 +91,7 @@ fn part(numbers: &Numbers, first: &mut [u8; MOST_COUNTS], next: &mut [u8; MOST_N
 }
 
 /// Copies the group's current page: one page read.
-fn fetch<K: Kind>(memory: &Memory<K>, disk: &[u8], group: usize, page: &mut Page) -> u32 {
+fn fetch<const COUNTS: usize>(memory: &Memory<COUNTS>, disk: &[u8], group: usize, page: &mut Page) -> u32 {
     page.copy_from_slice(current_page(memory, disk, group));
     1
 }
@@ -106,7 +106,7 @@ fn shown(entry: Entry, now: u32) -> [u8; SHOWN_SIZE] {
 #[cfg(test)]
 mod tests {
     use super::super::tests::Formatted;
-    use super::super::{Present, SYNC, UNFREEZE, WRITE};
+    use super::super::{PRESENT, SYNC, UNFREEZE, WRITE};
     use super::states;
 
     /// What formatting leaves of an entry, at 1000: free, and 1000 seconds past.
@@ -118,7 +118,7 @@ mod tests {
         fn shows(&mut self, numbers: &[u32], now: u32, pages: u32, shown: &[[u8; 9]]) {
             let blocks: Vec<u8> = numbers.iter().flat_map(|number| number.to_le_bytes()).collect();
             let mut answer = vec![0xCC; 9 * numbers.len()];
-            assert_eq!(states::<Present>(&mut self.memory, &self.disk, &blocks, now, &mut answer), Ok(pages));
+            assert_eq!(states::<PRESENT>(&mut self.memory, &self.disk, &blocks, now, &mut answer), Ok(pages));
             assert_eq!(answer, shown.as_flattened());
             assert_eq!(self.memory[288..292], now.to_le_bytes());
         }
@@ -126,7 +126,7 @@ mod tests {
         /// The list gets this number, and nothing changes.
         fn refuses(&mut self, blocks: &[u8], now: u32, answer_len: usize, number: u32) {
             let (memory, mut answer) = (self.memory, vec![0xCC; answer_len]);
-            assert_eq!(states::<Present>(&mut self.memory, &self.disk, blocks, now, &mut answer), Err(number));
+            assert_eq!(states::<PRESENT>(&mut self.memory, &self.disk, blocks, now, &mut answer), Err(number));
             assert_eq!(answer, vec![0xCC; answer_len]);
             assert_eq!(self.memory, memory);
         }

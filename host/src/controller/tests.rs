@@ -1,23 +1,16 @@
 //! A formatted box for the model's own tests, and document 02's Q-4 by hand: the bytes of memory and disk about the 64th
 //! update of a held page.
-use super::{command, format, Command, OwnDigest, INCREMENT, NEW_SALT, PAGE, Present, READ, RESTART, SYNC, UNFREEZE, WRITE};
-
-/// No two bytes are alike.
-pub const SERIAL: [u8; 16] = [1, 2, 3, 4, 5, 6, 7, 8, 9, 10, 11, 12, 13, 14, 15, 16];
+use super::{command, format, Command, OwnDigest, INCREMENT, NEW_SALT, PAGE, PRESENT, READ, RESTART, SYNC, UNFREEZE, WRITE};
 
 pub struct Formatted {
-    pub memory: [u8; 824],
+    pub memory: [u8; 808],
     pub disk: Vec<u8>,
 }
 
 impl Formatted {
     pub fn new(groups: u32) -> Formatted {
-        Formatted::with_serial(groups, &SERIAL)
-    }
-
-    pub fn with_serial(groups: u32, serial: &[u8]) -> Formatted {
-        let mut made = Formatted { memory: [0; 824], disk: vec![0; 33_280 * groups as usize] };
-        assert_eq!(format::<Present>(&mut made.memory, &mut made.disk, groups, &[0; 32], serial), 0);
+        let mut made = Formatted { memory: [0; 808], disk: vec![0; 33_280 * groups as usize] };
+        assert_eq!(format::<PRESENT>(&mut made.memory, &mut made.disk, groups, &[0; 32]), 0);
         made
     }
 
@@ -33,18 +26,13 @@ impl Formatted {
             WRITE | UNFREEZE | INCREMENT => self.sends(PAGE, block / 64, self.last_time(), 0).to_vec(),
             _ => Vec::new(),
         };
-        self.brings(kind, block, now, value, &proof, answer)
-    }
-
-    /// The same with this proof.
-    pub fn brings(&mut self, kind: u32, block: u32, now: u32, value: u32, proof: &[u8], answer: &mut [u8; 544]) -> u32 {
         let data: &[u8] = match kind {
             WRITE => &[0x44; 512],
             NEW_SALT => &[0x99; 32],
             _ => &[],
         };
-        let sent = Command { kind, block, now, value, data, proof };
-        command::<Present, OwnDigest>(&mut self.memory, &mut self.disk, &sent, answer)
+        let sent = Command { kind, block, now, value, data, proof: &proof };
+        command::<PRESENT, OwnDigest>(&mut self.memory, &mut self.disk, &sent, answer)
     }
 
     fn last_time(&self) -> u32 {
@@ -71,7 +59,7 @@ impl Formatted {
         assert_eq!(self.memory[32..40], [counts[0], 0, 0, 0, counts[1], 0, 0, 0]);
         assert_eq!(self.memory[292..296], [2, held, updates, 0]);
         if held == 255 {
-            assert_eq!(self.memory[296..808], [0; 512]);
+            assert_eq!(self.memory[296..], [0; 512]);
         }
     }
 

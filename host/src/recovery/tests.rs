@@ -1,6 +1,6 @@
 //! The model by hand: which blocks are found, where the walk stops, and what is refused.
 use super::recover;
-use crate::controller::{self, OwnDigest, Present};
+use crate::controller::{self, OwnDigest, PRESENT};
 use crate::versions;
 
 const LAST_TIME: u32 = 1000;
@@ -12,15 +12,15 @@ const COUNTING: (u32, u32) = (NOW + 1, 3001);
 const LAPSED: (u32, u32) = (NOW, 3001);
 
 struct Made {
-    memory: [u8; 824],
+    memory: [u8; 808],
     disk: Vec<u8>,
 }
 
 impl Made {
     /// A box whose blocks are all free, and whose log is block 0, written at 1500, with these records and this pointer.
     fn new(groups: usize, records: &[(u32, u32)], pointer: u64) -> Made {
-        let mut made = Made { memory: [0; 824], disk: vec![0; 33_280 * groups] };
-        assert_eq!(controller::format::<Present>(&mut made.memory, &mut made.disk, groups as u32, &[0; 32], &[0; 16]), 0);
+        let mut made = Made { memory: [0; 808], disk: vec![0; 33_280 * groups] };
+        assert_eq!(controller::format::<PRESENT>(&mut made.memory, &mut made.disk, groups as u32, &[0; 32]), 0);
         made.memory[288..292].copy_from_slice(&LAST_TIME.to_le_bytes());
         made.log(0, FROZEN, records, pointer);
         made
@@ -48,13 +48,13 @@ impl Made {
             right[4 * part..4 * part + 4].copy_from_slice(&block.to_le_bytes());
         }
         let mut result = [0xCC; 1024];
-        assert_eq!(recover::<Present>(&self.memory, &self.disk, point, now, &mut result), 0);
+        assert_eq!(recover::<PRESENT>(&self.memory, &self.disk, point, now, &mut result), 0);
         assert_eq!(result, right, "at {point}, now {now}");
     }
 
     fn refuses(&self, disk_len: usize, now: u32, result_len: usize, number: u32) {
         let mut result = vec![0xCC; result_len];
-        assert_eq!(recover::<Present>(&self.memory, &self.disk[..disk_len], POINT, now, &mut result), number);
+        assert_eq!(recover::<PRESENT>(&self.memory, &self.disk[..disk_len], POINT, now, &mut result), number);
         assert_eq!(result, vec![0xCC; result_len]);
     }
 }
@@ -65,10 +65,10 @@ fn a_store_is_found_as_it_was() {
     made.entry(0, (0, 1));
     assert_eq!(versions::start(&mut state, 500), 0);
     for (part, now) in [(7, 1000), (255, 1001), (7, 1002)] {
-        assert!(versions::put::<Present, OwnDigest>(&mut state, &mut made.memory, &mut made.disk, part, now, &[1; 512]).is_ok());
+        assert!(versions::put::<PRESENT, OwnDigest>(&mut state, &mut made.memory, &mut made.disk, part, now, &[1; 512]).is_ok());
     }
     made.finds(1002, 1002, &[]);
-    assert_eq!(versions::flush::<Present, OwnDigest>(&mut state, &mut made.memory, &mut made.disk, 1003), Ok(()));
+    assert_eq!(versions::flush::<PRESENT, OwnDigest>(&mut state, &mut made.memory, &mut made.disk, 1003), Ok(()));
     // With the page held as it is, and as of the times about the log block's.
     made.finds(1003, 1003, &[(7, 3), (255, 2)]);
     made.finds(1002, 1003, &[]);
@@ -130,7 +130,7 @@ fn the_held_page_is_the_current_one() {
     made.finds(POINT, NOW, &[]);
     made.memory[32] = 1;
     made.memory[293..295].copy_from_slice(&[0, 1]);
-    made.memory[296..808].copy_from_slice(&page);
+    made.memory[296..].copy_from_slice(&page);
     made.finds(POINT, NOW, &[(1, 1)]);
 }
 

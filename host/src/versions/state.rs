@@ -1,5 +1,4 @@
 //! The version store's state: where its fields lie, and which states are valid.
-use crate::controller::Kind;
 
 pub const SIZE: usize = RECORDS + MOST_PENDING * RECORD_SIZE;
 pub const LAST_PART: u32 = 255;
@@ -52,8 +51,8 @@ impl State {
     }
 
     /// Whether the state is of a store on a box of so many groups at most.
-    pub fn valid<K: Kind>(&self) -> bool {
-        let end = GROUP_DATA * K::COUNTS as u32;
+    pub fn valid<const COUNTS: usize>(&self) -> bool {
+        let end = GROUP_DATA * COUNTS as u32;
         let pending = self.pending();
         if !Self::lock_in_range(self.lock()) || pending > MOST_PENDING {
             return false;

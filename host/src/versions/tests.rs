@@ -1,6 +1,6 @@
 //! The model by hand: bytes, numbers, and commands that are taken back.
 use super::{block, flush, put, start, Refusal};
-use crate::controller::{self, OwnDigest, Old, Present};
+use crate::controller::{self, OwnDigest, OLD, PRESENT};
 
 #[derive(Clone, Debug, PartialEq)]
 struct Store {
@@ -11,18 +11,18 @@ struct Store {
 
 impl Store {
     fn new(groups: u32, lock: u32) -> Store {
-        let mut made = Store { state: vec![0; 1536], memory: vec![0; 824], disk: vec![0; 33_280 * groups as usize] };
-        assert_eq!(controller::format::<Present>(&mut made.memory, &mut made.disk, groups, &[0; 32], &[0; 16]), 0);
+        let mut made = Store { state: vec![0; 1536], memory: vec![0; 808], disk: vec![0; 33_280 * groups as usize] };
+        assert_eq!(controller::format::<PRESENT>(&mut made.memory, &mut made.disk, groups, &[0; 32]), 0);
         assert_eq!(start(&mut made.state, lock), 0);
         made
     }
 
     fn puts(&mut self, part: u32, now: u32, byte: u8) -> Result<u32, Refusal> {
-        put::<Present, OwnDigest>(&mut self.state, &mut self.memory, &mut self.disk, part, now, &[byte; 512])
+        put::<PRESENT, OwnDigest>(&mut self.state, &mut self.memory, &mut self.disk, part, now, &[byte; 512])
     }
 
     fn flushes(&mut self, now: u32) -> Result<(), Refusal> {
-        flush::<Present, OwnDigest>(&mut self.state, &mut self.memory, &mut self.disk, now)
+        flush::<PRESENT, OwnDigest>(&mut self.state, &mut self.memory, &mut self.disk, now)
     }
 
     fn set(&mut self, at: usize, number: u32) {
@@ -35,7 +35,7 @@ fn a_start_leaves_no_versions() {
     let store = Store::new(1, 500);
     assert_eq!(store.state[..16], [0xF4, 0x01, 0, 0, 0, 0, 0, 0, 0, 0, 0, 0, 0, 0, 0, 0]);
     assert_eq!(store.state[16..], [0xFF; 1520]);
-    assert_eq!(block::<Present>(&store.state, 255), Ok(u32::MAX));
+    assert_eq!(block::<PRESENT>(&store.state, 255), Ok(u32::MAX));
     assert_eq!([0, 2_147_483_648].map(|lock| start(&mut [0; 1536], lock)), [10, 10]);
     assert_eq!([1, 2_147_483_647].map(|lock| start(&mut [0; 1536], lock)), [0, 0]);
     assert_eq!(start(&mut [0; 1537], 0), 1);
@@ -48,7 +48,7 @@ fn three_puts_and_a_flush_leave_these_bytes() {
     let records = [7, 0, 0, 0, 1, 0, 0, 0, 255, 0, 0, 0, 2, 0, 0, 0, 7, 0, 0, 0, 3, 0, 0, 0];
     assert_eq!(s.state[8..16], [3, 0, 0, 0, 3, 0, 0, 0]);
     assert_eq!(s.state[1040..1064], records);
-    assert_eq!([block::<Present>(&s.state, 7), block::<Present>(&s.state, 255), block::<Present>(&s.state, 256)], [Ok(3), Ok(2), Err(13)]);
+    assert_eq!([block::<PRESENT>(&s.state, 7), block::<PRESENT>(&s.state, 255), block::<PRESENT>(&s.state, 256)], [Ok(3), Ok(2), Err(13)]);
     // Block 1 counts to 1002 + 500 + 1.
     assert_eq!(s.memory[304..312], [0xDF, 0x05, 0, 0, 0xD1, 0x07, 0, 0]);
     assert_eq!(s.flushes(1003), Ok(()));
@@ -88,7 +88,7 @@ fn a_page_leaves_inside_a_put() {
     assert_eq!(refused, before);
     assert_eq!(s.puts(63, 1000, 1), Ok(63));
     assert_eq!(s.memory[292..296], [2, 255, 0, 0]);
-    assert_eq!(s.memory[296..808], [0; 512]);
+    assert_eq!(s.memory[296..], [0; 512]);
     assert_eq!(s.disk[64 * 512..65 * 512], [0xF4, 0x01, 0, 0, 0xD0, 0x07, 0, 0].repeat(64));
 }
 
@@ -147,6 +147,6 @@ fn blocks_are_those_of_the_largest_box() {
     let mut s = Store::new(1, 500);
     for (number, old, present) in [(1023, Ok(1023), Ok(1023)), (1024, Err(1), Ok(1024)), (4095, Err(1), Ok(4095)), (4096, Err(1), Err(1))] {
         s.set(16 + 4 * 9, number);
-        assert_eq!([block::<Old>(&s.state, 9), block::<Present>(&s.state, 9)], [old, present]);
+        assert_eq!([block::<OLD>(&s.state, 9), block::<PRESENT>(&s.state, 9)], [old, present]);
     }
 }

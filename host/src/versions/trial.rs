@@ -1,7 +1,6 @@
 //! Commands to the controller that are taken back where a later one is refused.
 use super::Refusal;
-use crate::controller::{self, Command, Digest, Kind, Memory, PAGE};
-use std::marker::PhantomData;
+use crate::controller::{self, Command, Digest, Memory, PAGE};
 
 const BLOCK_SIZE: usize = 512;
 const GROUP_DATA: u32 = 64;
@@ -9,7 +8,7 @@ const PROOF_SIZE: usize = 544;
 /// Three commands, and at each the block and the held page, which leaves for another group's or by itself.
 const MOST_STORES: usize = 6;
 
-pub struct Trial<'a, K: Kind> {
+pub struct Trial<'a, const COUNTS: usize> {
     memory: &'a mut [u8],
     disk: &'a mut [u8],
     blocks: u32,
@@ -19,14 +18,13 @@ pub struct Trial<'a, K: Kind> {
     stored: Vec<(usize, [u8; BLOCK_SIZE])>,
     /// How many commands were given.
     given: u32,
-    kind: PhantomData<K>,
 }
 
-impl<'a, K: Kind> Trial<'a, K> {
+impl<'a, const COUNTS: usize> Trial<'a, COUNTS> {
     /// A trial on a box of so many data blocks.
     pub fn new(memory: &'a mut [u8], disk: &'a mut [u8], blocks: u32, now: u32) -> Self {
         let memory_before = memory.to_vec();
-        Trial { memory, disk, blocks, now, memory_before, stored: Vec::with_capacity(MOST_STORES), given: 0, kind: PhantomData }
+        Trial { memory, disk, blocks, now, memory_before, stored: Vec::with_capacity(MOST_STORES), given: 0 }
     }
 
     /// The first block that is free now and not the reserve: after the one last taken, going round.
@@ -42,7 +40,7 @@ impl<'a, K: Kind> Trial<'a, K> {
     }
 
     fn allocatable(&self, block: u32, reserve: u32) -> bool {
-        block != reserve && controller::is_free::<K>(self.memory, self.disk, block, self.now)
+        block != reserve && controller::is_free::<COUNTS>(self.memory, self.disk, block, self.now)
     }
 
     /// An update with the current page and tag of the block's group, as kind 3 answers them.
@@ -63,7 +61,7 @@ impl<'a, K: Kind> Trial<'a, K> {
         answer: &mut [u8],
     ) -> Result<(), Refusal> {
         let command = Command { kind, block, now: self.now, value, data, proof };
-        match controller::command::<K, D>(self.memory, self.disk, &command, answer) {
+        match controller::command::<COUNTS, D>(self.memory, self.disk, &command, answer) {
             0 => Ok(()),
             number => Err(Refusal { number, command: self.given }),
         }
@@ -72,7 +70,7 @@ impl<'a, K: Kind> Trial<'a, K> {
     /// Keeps what an update may store on: the block, and the page of the group that is held. A page that is not held yet
     /// does not leave with its first update.
     fn keep(&mut self, block: u32) {
-        if let Some(held) = Memory::<K>::of(self.memory).and_then(Memory::held) {
+        if let Some(held) = Memory::<COUNTS>::of(self.memory).and_then(Memory::held) {
             self.keep_physical(65 * held + 64);
         }
         self.keep_physical((block + block / GROUP_DATA) as usize);

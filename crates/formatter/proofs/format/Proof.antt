@@ -5,8 +5,7 @@ use mathlib.Core.Path.{sym, ◌∙◌}
 use native.Mathlib.Omega.{arith}
 use Rattle.lockpage.specs.Geometry.{present}
 use Rattle.lockpage.proofs.GeometryLaw.{present_proper as σ}
-use Rattle.memory.specs.Memory.{Settings, settings_of}
-use Rattle.machine.specs.Command.{Box, box_of}
+use Rattle.machine.specs.Command.{box_of}
 use Rattle.machine.proofs.FormatLaw.{Formattable, formattable, formatting_accepted, formatting_refused}
 use Rattle.formatter.proofs.format.Statement.{statement}
 use Rattle.formatter.proofs.format.Tie as tie
@@ -16,30 +15,23 @@ abbrev formatted : tie.After-store-blank-pages-arg → tie.After-format
 formatted c = c.before.before.before
 
 abbrev start : tie.After-refusal → tie.Start
-start c = c.before.before.before.before.before.before.before
-
--- the box and what it is formatted with
-abbrev given : tie.Start → Box
-given x = box_of x.args.memory.now x.args.disk.now
-
-abbrev settings : tie.Start → Settings
-settings x = settings_of x.args.groups x.args.salt.now x.args.serial.now
+start c = c.before.before.before.before.before.before
 
 -- what the questions have seen to
 known : (c : tie.Else1)
-    → let x = start c.before in
-    Formattable present (given x) (settings x)
-known c = formattable σ _ _ (sym c.before.refusal.ensures ∙ omega (arith, c.if1.false))
+    → let x = (start c.before).args in
+    Formattable present (box_of x.memory.now x.disk.now) x.groups x.salt.now
+known c = formattable σ _ _ _ (sym c.before.refusal.ensures ∙ omega (arith, c.if1.false))
 
 refused : tie.Need-returns
 refused c =
-    let x = start c.before in
-    formatting_refused σ (given x) (settings x) _ c.before.refusal.ensures c.if1.true
+    let x = (start c.before).args in
+    formatting_refused σ (box_of x.memory.now x.disk.now) x.groups x.salt.now _ c.before.refusal.ensures c.if1.true
 
 format-requires : tie.Need-format-requires
 format-requires c κs =
     let k = known c.before in
-    record { size = k.size; storable = k.storable }
+    record { size = k.size; groups_byte = omega (arith, k.most); salt_size_is = k.salt_size_is }
 
 store-requires : tie.Need-store-blank-pages-requires
 store-requires c κs =
@@ -51,8 +43,8 @@ accepted c =
     let stored = c.before.before in
     let made = formatted stored.before in
     let asked = made.before.before in
-    let x = start asked.before in
-    formatting_accepted σ (given x) (settings x) _ _
+    let x = (start asked.before).args in
+    formatting_accepted σ (box_of x.memory.now x.disk.now) x.groups x.salt.now _ _
     (sym asked.before.refusal.ensures ∙ omega (arith, asked.if1.left)) made.format.ensures stored.store-blank-pages.ensures
 
 pub format-spec : {M : Type 1} → statement M

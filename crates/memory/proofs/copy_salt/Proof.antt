@@ -1,19 +1,15 @@
--- `memory::copy_salt` meets its contract, by those of the two copies. Assumes nothing.
+-- `memory::copy_salt` meets its contract, by that of the copy. Assumes nothing.
 use borrow.Author.Rules.{rules}
-use mathlib.Core.Path.{refl}
 use Rattle.lockpage.proofs.GeometryLaw.{present_proper as σ}
-use Rattle.memory.proofs.CodeLaw.{salt_fetched}
+use Rattle.memory.proofs.CodeLaw.{salt_copied}
 use Rattle.memory.proofs.copy_salt.Statement.{statement}
 use Rattle.memory.proofs.copy_salt.Tie as tie
 
 returns : tie.Need-returns
 returns c =
     let copied = c.before.before in
-    let buffered = copied.before.before.before.before in
-    let start = buffered.before.before.before.before in
-    salt_fetched σ _ _ _ _ _ start.requires.0 refl start.requires.1 buffered.copy.ensures copied.copy2.ensures
+    let start = copied.before.before.before.before in
+    salt_copied σ _ _ start.requires.0 _ start.requires.1 copied.copy.ensures
 
 pub copy-salt-spec : {M : Type 1} → statement M
-copy-salt-spec =
-    tie.close
-    (tie.spec (λ c. search rules) (λ c κs. search rules) (λ c. search rules) (λ c κs. search rules) (λ c. search rules) returns)
+copy-salt-spec = tie.close (tie.spec (λ c κs. search rules) (λ c. search rules) returns)

@@ -8,16 +8,15 @@ use Rattle.memory.proofs.format.Tie as tie
 returns : tie.Need-returns
 returns c =
     let last = c.before.before in
-    let fourth = last.before.before.before.before in
-    let third = fourth.before.before.before.before in
+    let third = last.before.before.before.before in
     let second = third.before.before.before.before in
     let first = second.before.before.before.before in
-    let start = first.before.before.before.before.before in
+    let start = first.before.before.before.before in
     format_stored σ _ _ _ _ _ _ _ start.requires.size first.fill.ensures second.set-salt.ensures
-    third.store-u8.ensures fourth.store-u82.ensures last.set-serial.ensures
+    third.store-u8.ensures last.store-u82.ensures
 
 pub format-spec : {M : Type 1} → statement M
 format-spec =
     tie.close
     (tie.spec (λ c κs. search rules) (λ c κs. search rules) (λ c. search rules) (λ c κs. search rules)
-    (λ c κs. search rules) (λ c κs. search rules) (λ c. search rules) returns)
+    (λ c κs. search rules) (λ c. search rules) returns)

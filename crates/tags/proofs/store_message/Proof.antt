@@ -2,7 +2,7 @@
 use borrow.Author.Rules.{rules}
 use Rattle.octets.proofs.ReplacedLaw.{lent_filled}
 use Rattle.lockpage.proofs.GeometryLaw.{present_proper as σ}
-use Rattle.memory.proofs.FieldLaw.{salt_length, serial_length}
+use Rattle.memory.proofs.FieldLaw.{salt_length}
 use Rattle.tags.proofs.MessageLaw.{message_built}
 use Rattle.tags.proofs.store_message.Statement.{statement}
 use Rattle.tags.proofs.store_message.Tie as tie
@@ -14,18 +14,16 @@ returns c =
     let counted = numbered.before.before in
     let grouped = counted.before.before.before in
     let salted = grouped.before.before.before.before in
-    let named = salted.before.before.before.before in
-    let start = named.before.before.before.before.before in
+    let start = salted.before.before.before.before.before in
     let ready = start.requires.0 in
-    let size = ready.count.size in
-    message_built σ _ _ start.args.out.now _ _ _ _ _ _ _ size ready.page_size_is start.requires.1
-    (lent_filled _ _ _ _ _ (serial_length σ _ size) named.copy-serial.ensures)
-    (lent_filled _ _ _ _ _ (salt_length σ _ size) salted.copy-salt.ensures)
+    let out = start.args.out.now in
+    message_built σ _ _ out _ _ _ _ _ _ ready.count.size ready.page_size_is start.requires.1
+    (lent_filled out _ _ 0 _ (salt_length σ _ ready.count.size) salted.copy-salt.ensures)
     grouped.store-u64.ensures counted.count.ensures numbered.store-u32.ensures copied.copy.ensures
 
 pub store-message-spec : {M : Type 1} → statement M
 store-message-spec =
     tie.close
-    (tie.spec (λ c. search rules) (λ c. search rules) (λ c. search rules) (λ c κs. search rules) (λ c. search rules) (λ c. search rules)
-    (λ c. search rules) (λ c κs. search rules) (λ c κs. search rules) (λ c κs. search rules) (λ c κs. search rules) (λ c κs. search rules)
+    (tie.spec (λ c. search rules) (λ c. search rules) (λ c. search rules) (λ c κs. search rules) (λ c κs. search rules)
+    (λ c κs. search rules) (λ c. search rules) (λ c κs. search rules) (λ c. search rules) (λ c. search rules) (λ c κs. search rules)
     (λ c. search rules) returns)

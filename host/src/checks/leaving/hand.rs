@@ -1,7 +1,6 @@
-//! Pages that leave by themselves, on the archive alone and with bytes written by hand: a box of two groups with a zero salt and a serial.
+//! Pages that leave by themselves, on the archive alone and with bytes written by hand: a box of two groups with a zero salt.
 use super::super::alone::{same, Archive};
 use super::super::Checked;
-use crate::blake3::printed;
 
 const BLANK: [u8; 8] = [0, 0, 0, 0, 1, 0, 0, 0];
 
@@ -27,7 +26,7 @@ fn memory(a: &Archive, counts: [u8; 2], held: u8, updates: u8) -> Result<(), Str
     same("the counts", &a.memory[32..40], &[counts[0], 0, 0, 0, counts[1], 0, 0, 0])?;
     same("time, G, held and updates", &a.memory[288..296], &[100, 0, 0, 0, 2, held, updates, 0])?;
     match held {
-        255 => same("the held page", &a.memory[296..808], &[0; 512]),
+        255 => same("the held page", &a.memory[296..], &[0; 512]),
         _ => Ok(()),
     }
 }
@@ -39,8 +38,8 @@ fn stored(a: &Archive, lock: Option<u8>) -> Result<(), String> {
     same("group 0's page", &a.disk[64 * 512..65 * 512], &page)
 }
 
-/// Byte 294 along the way, the 64th update, and the 128th. The tag is by b3sum: perl -e 'print pack("C*", 0xB1..0xC0),
-/// "\0" x 32, pack("Q<", 0), pack("L<", 64), pack("L<L<", 0, 1) x 3, pack("L<L<", 63, 200), pack("L<L<", 0, 1) x 60' | b3sum --no-names
+/// Byte 294 along the way, the 64th update, and the 128th. The tag is by b3sum: perl -e 'print "\0" x 32, pack("Q<", 0),
+/// pack("L<", 64), pack("L<L<", 0, 1) x 3, pack("L<L<", 63, 200), pack("L<L<", 0, 1) x 60' | b3sum --no-names
 fn leaves() -> Result<(), String> {
     let mut a = updated(1)?;
     for updates in 1..=63 {
@@ -65,7 +64,10 @@ fn leaves() -> Result<(), String> {
     stored(&a, Some(127))
 }
 
-const TAG_64: [u8; 32] = printed("3c95b60134e45a107381e20548a88e4fcd3a1ad0ead4cfeb5cc9e3a7a3172608");
+const TAG_64: [u8; 32] = [
+    0x27, 0x1E, 0x84, 0xBD, 0xE0, 0xB3, 0xB7, 0xCD, 0x64, 0x50, 0x81, 0x2C, 0xF3, 0x97, 0x17, 0x8C, 0x3D, 0x4B, 0x87,
+    0x25, 0x61, 0x83, 0x6C, 0xEF, 0x5A, 0x06, 0x8D, 0x29, 0xC1, 0x94, 0x3C, 0x84,
+];
 
 /// Each kind as the 64th update: a write stores its data and the page, and nothing else of the disk changes.
 fn writes() -> Result<(), String> {

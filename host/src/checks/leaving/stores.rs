@@ -1,8 +1,8 @@
 //! The order of the archive's stores on the disk, which the bytes that it leaves do not show: another group's held page, the data, the
 //! page that leaves by itself. The disk lies where the machine lets nobody write. The first store on each of the machine's own
 //! pages is caught, noted and then let through. Found here: a page that leaves before the data, and data before another's page.
-use super::super::call::{even_page, put_number, Call, GROUP};
-use super::super::places::{held_page_mut, PRESENT};
+use super::super::call::{even_page, put_number, Call, GROUP, MEMORY};
+use super::super::places::PRESENT;
 use super::super::Checked;
 use crate::archive;
 use std::ffi::c_void;
@@ -120,10 +120,10 @@ fn box_of(held: u8, updates: u8) -> (Vec<u8>, Vec<u8>) {
     let mut page = even_page(0, 1);
     put_number(&mut page, 24, 5);
     put_number(&mut page, 28, 0);
-    let mut memory = PRESENT.blank();
+    let mut memory = vec![0; MEMORY];
     [32, 36].into_iter().for_each(|at| put_number(&mut memory, at, 100));
     memory[PRESENT.groups..PRESENT.zero].copy_from_slice(&[2, held, updates]);
-    held_page_mut(&mut memory).copy_from_slice(&page);
+    memory[PRESENT.page..].copy_from_slice(&page);
     let mut disk = vec![0xB0; DISK];
     disk.chunks_exact_mut(GROUP).for_each(|group| group[GROUP - 512..].copy_from_slice(&page));
     (memory, disk)

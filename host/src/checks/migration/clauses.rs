@@ -58,7 +58,7 @@ fn header(migrations: &mut Migrations, right: &[u8], groups: u8, held: u8) -> Re
 /// Each byte of the counts from G on, of the held page and of the salt.
 fn bytes(migrations: &mut Migrations, right: &[u8], groups: usize, held: u8) -> Result<(), String> {
     let unused = (COUNTS + 4 * groups..OLD.last_time).map(|at| (at, false));
-    let page = (OLD.page..OLD.serial).map(|at| (at, held != NONE));
+    let page = (OLD.page..OLD.size).map(|at| (at, held != NONE));
     let salt = (0..COUNTS).map(|at| (at, true));
     for (at, valid) in unused.chain(page).chain(salt) {
         for byte in [1, 128] {

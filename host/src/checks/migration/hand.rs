@@ -1,15 +1,12 @@
 //! Migration on the archive alone, with bytes that are written out here.
 use super::super::alone::{numbered, same, Archive};
-use super::super::places::SERIAL;
 use super::super::Checked;
 use crate::archive;
-use crate::blake3::printed;
 
 pub fn check() -> Checked {
     held()?;
     none_held()?;
     refusals()?;
-    serials()?;
     goes_on()?;
     Ok("migrations by hand".into())
 }
@@ -26,68 +23,49 @@ fn sixteen() -> [u8; 616] {
 }
 
 fn held() -> Result<(), String> {
-    let (old, mut memory) = (sixteen(), [0xCC; 824]);
-    numbered("a migration with a page held", archive::migrate(&old, &SERIAL, &mut memory), 0)?;
+    let (old, mut memory) = (sixteen(), [0xCC; 808]);
+    numbered("a migration with a page held", archive::migrate(&old, &mut memory), 0)?;
     same("the salt", &memory[..32], &[7; 32])?;
     same("the first count", &memory[32..36], &[1, 0, 0, 9])?;
     same("the counts", &memory[32..96], &old[32..96])?;
     same("the last of them", &memory[92..96], &[0xFE, 0xFF, 0xFF, 0xFF])?;
     same("the new counts", &memory[96..288], &[0; 192])?;
     same("time, G, held, updates and zero", &memory[288..296], &[0xE8, 0x03, 0, 0, 16, 15, 63, 0])?;
-    same("the held page", &memory[296..808], &[0xF4, 0x01, 0, 0, 0xD0, 0x07, 0, 0].repeat(64))?;
-    same("the serial", &memory[808..], &SERIAL)?;
+    same("the held page", &memory[296..], &[0xF4, 0x01, 0, 0, 0xD0, 0x07, 0, 0].repeat(64))?;
     same("the old memory", &old, &sixteen())
 }
 
 fn none_held() -> Result<(), String> {
-    let (mut old, mut memory) = ([0; 616], [0xCC; 824]);
+    let (mut old, mut memory) = ([0; 616], [0xCC; 808]);
     old[96..104].copy_from_slice(&[0xFF, 0xFF, 0xFF, 0x7F, 1, 255, 0, 0]);
-    numbered("a migration with none held", archive::migrate(&old, &SERIAL, &mut memory), 0)?;
-    let right = [&[0; 288][..], &[0xFF, 0xFF, 0xFF, 0x7F, 1, 255, 0, 0], &[0; 512], &SERIAL].concat();
+    numbered("a migration with none held", archive::migrate(&old, &mut memory), 0)?;
+    let right = [&[0; 288][..], &[0xFF, 0xFF, 0xFF, 0x7F, 1, 255, 0, 0], &[0; 512]].concat();
     same("the migrated memory", &memory, &right)
 }
 
 /// A byte that is wrong, alone; a buffer of another length; a memory of the present box.
 fn refusals() -> Result<(), String> {
     for (at, byte) in [(99, 0x80), (100, 0), (100, 15), (100, 17), (100, 64), (101, 16), (101, 255), (102, 0), (102, 64), (103, 1), (92, 0xFF)] {
-        let (mut old, mut memory) = (sixteen(), [0xCC; 824]);
+        let (mut old, mut memory) = (sixteen(), [0xCC; 808]);
         old[at] = byte;
-        numbered(&format!("a migration with {byte} at {at}"), archive::migrate(&old, &SERIAL, &mut memory), 1)?;
-        same("a buffer refused", &memory, &[0xCC; 824])?;
+        numbered(&format!("a migration with {byte} at {at}"), archive::migrate(&old, &mut memory), 1)?;
+        same("a buffer refused", &memory, &[0xCC; 808])?;
     }
-    for len in [0, 616, 807, 808, 809, 823, 825] {
+    for len in [0, 616, 807, 809] {
         let mut memory = vec![0xCC; len];
-        numbered(&format!("a migration into {len} bytes"), archive::migrate(&sixteen(), &SERIAL, &mut memory), 1)?;
+        numbered(&format!("a migration into {len} bytes"), archive::migrate(&sixteen(), &mut memory), 1)?;
         same("a buffer refused", &memory, &vec![0xCC; len])?;
     }
-    let (present, mut memory) = (Archive::formatted(2)?.memory, [0xCC; 824]);
-    for old in [&present[..], &present[..808], &present[..616], &sixteen()[..615], &[]] {
-        numbered(&format!("a migration of {} bytes", old.len()), archive::migrate(old, &SERIAL, &mut memory), 1)?;
-        same("a buffer refused", &memory, &[0xCC; 824])?;
-    }
-    Ok(())
-}
-
-/// A serial of another length, which is asked for last: 6 where all else is right, and else 1.
-fn serials() -> Result<(), String> {
-    let mut invalid = sixteen();
-    invalid[103] = 1;
-    for len in [0, 1, 15, 17, 32] {
-        let (mut memory, serial) = ([0xCC; 825], &[9; 32][..len]);
-        let what = format!("a migration with {len} bytes of serial");
-        numbered(&what, archive::migrate(&sixteen(), serial, &mut memory[..824]), 6)?;
-        numbered(&what, archive::migrate(&invalid, serial, &mut memory[..824]), 1)?;
-        numbered(&what, archive::migrate(&sixteen(), serial, &mut memory[..808]), 1)?;
-        numbered(&what, archive::migrate(&sixteen(), serial, &mut memory), 1)?;
-        same("a buffer refused", &memory, &[0xCC; 825])?;
+    let (present, mut memory) = (Archive::formatted(2)?.memory, [0xCC; 808]);
+    for old in [&present[..], &present[..616], &sixteen()[..615], &[]] {
+        numbered(&format!("a migration of {} bytes", old.len()), archive::migrate(old, &mut memory), 1)?;
+        same("a buffer refused", &memory, &[0xCC; 808])?;
     }
     Ok(())
 }
 
 /// A box of two groups with block 3 written under lock 500 at 1000, its page held with 63 updates: the next update is the 64th, with
-/// which the page leaves. The tag that the old box answered is refused from now on; the new one has the serial in front. By b3sum:
-/// perl -e 'print pack("C*", 0xB1..0xC0), "\0" x 32, pack("Q<", 0), pack("L<", 63), pack("L<L<", 0, 1) x 3, pack("L<L<", 500, 2000),
-/// pack("L<L<", 0, 1) x 60' | b3sum --no-names, the same without the serial, and with count 64 and the entry 1701, 2001.
+/// which the page leaves.
 fn goes_on() -> Result<(), String> {
     let mut old = [0; 616];
     old[32] = 63;
@@ -95,21 +73,14 @@ fn goes_on() -> Result<(), String> {
     old[104..].copy_from_slice(&[0, 0, 0, 0, 1, 0, 0, 0].repeat(64));
     old[128..136].copy_from_slice(&[0xF4, 0x01, 0, 0, 0xD0, 0x07, 0, 0]);
     let mut a = Archive::formatted(2)?;
-    a.memory = [0xCC; 824];
-    numbered("a migration", archive::migrate(&old, &SERIAL, &mut a.memory), 0)?;
-    same("the tag after a migration", &a.page(0)?[512..], &TAG)?;
-    [4, 5, 6].into_iter().try_for_each(|kind| a.brings(kind, 3, 1000, 0, &[&old[104..], &OLD_TAG].concat(), 7))?;
+    a.memory = [0xCC; 808];
+    numbered("a migration", archive::migrate(&old, &mut a.memory), 0)?;
     a.shows(3, 1000, [0xF4, 0x01, 0, 0, 0xD0, 0x07, 0, 0, 0xF4, 0x01, 0, 0, 0, 0, 0, 0, 1])?;
     a.gets(10, 0, 1000, 0, 0)?;
     same("identify", &a.answer[..8], &[2, 0, 0, 0, 128, 0, 0, 0])?;
     a.gets(4, 128, 1000, 0, 5)?;
     a.gets(5, 3, 1200, 0, 0)?;
-    same("the tag of the 64th update", &a.answer[512..], &TAG_64)?;
     same("the count after the 64th update", &a.memory[32..36], &[64, 0, 0, 0])?;
     same("time, G, held, updates and zero", &a.memory[288..296], &[0xB0, 0x04, 0, 0, 2, 255, 0, 0])?;
     same("the page on the disk", &a.disk[64 * 512 + 24..][..8], &[0xA5, 0x06, 0, 0, 0xD1, 0x07, 0, 0])
 }
-
-const TAG: [u8; 32] = printed("e694d15016f48c0e4830b253ebef15c3019114d3fb0fd763a0f93833f5e0e1ae");
-const OLD_TAG: [u8; 32] = printed("4239c09651ab19f8e0058e235e2edf8be87f1a6ceefccee095dd32e047beb37d");
-const TAG_64: [u8; 32] = printed("516ed9ba53f7f7a70ec8038ff76318ffb1e9b981ca8f9c463dc3fb8abf9b7658");

@@ -1,5 +1,4 @@
-//! Random memories, valid and damaged, with serials and into buffers that are mostly right. Which clauses a memory breaks is found by
-//! the tester.
+//! Random memories, valid and damaged, into buffers that are mostly right. Which clauses a memory breaks is found by the tester.
 use super::super::call::{number, put_number, LATEST};
 use super::super::places::{COUNTS, OLD, PRESENT};
 use super::super::Checked;
@@ -17,26 +16,13 @@ pub fn check(migrations: &mut Migrations, seed: u64, count: usize) -> Checked {
         for _ in 0..[0, 0, 1, 1, 1, 2, 3][random.below(7)] {
             damage(&mut old, &mut random);
         }
-        let len = if random.below(20) == 0 { [0, 616, 808, 823, 825, random.below(1700)][random.below(6)] } else { PRESENT.size };
-        let serial = serial(&mut random);
-        let mut broken = broken(&old);
-        if len != PRESENT.size {
-            broken.push("a buffer of another length");
-        }
-        seen.memory(&old, &broken, serial.len() == 16);
-        let number = if !broken.is_empty() { 1 } else if serial.len() != 16 { 6 } else { 0 };
-        migrations.expect(&old, &serial, len, number)?;
+        let len = if random.below(20) == 0 { [0, 616, 807, 809, random.below(1700)][random.below(5)] } else { PRESENT.size };
+        let broken = broken(&old);
+        seen.memory(&old, &broken, len == PRESENT.size);
+        migrations.expect(&old, len, if broken.is_empty() && len == PRESENT.size { 0 } else { 1 })?;
     }
     seen.print();
     Ok(format!("random memories: {count} migrations, {}", seen.check()?))
-}
-
-/// Of 16 bytes in nine cases of ten.
-fn serial(random: &mut Random) -> Vec<u8> {
-    let len = if random.below(10) == 0 { [0, 1, 15, 17, 32, random.below(300)][random.below(6)] } else { 16 };
-    let mut serial = vec![0; len];
-    random.fill(&mut serial);
-    serial
 }
 
 /// Of any groups, with a page held in two cases of three.
@@ -78,7 +64,7 @@ fn damage(old: &mut Vec<u8>, random: &mut Random) {
         5 | 6 => put_number(old, COUNTS + 4 * random.below(16), LIMITS[random.below(8)]),
         7 => old[OLD.page + random.below(512)] = byte,
         8 => (old[OLD.held], old[OLD.updates]) = (NONE, 0),
-        9 => old.resize([0, 615, 617, 808, 824, random.below(1000)][random.below(6)], 0),
+        9 => old.resize([0, 615, 617, 808, random.below(1000)][random.below(5)], 0),
         10 => old[OLD.last_time + random.below(8)] ^= 1 << random.below(8),
         _ => old[random.below(OLD.size)] ^= 1 << random.below(8),
     }

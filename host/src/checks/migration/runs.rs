@@ -1,7 +1,6 @@
 //! The promise itself: the host's old box, and the archive from the memory that it migrated, side by side. Each event goes to both, and
-//! the numbers, answers, disks, states and results are the same after each, but for tags, which are those of either's message; and the
-//! archive's memory is the old one with the new counts, all 0, and the serial. The box is migrated again at any moment, with a page
-//! held or none, and gets another serial.
+//! the numbers, answers, disks, states and results are the same after each; and the archive's memory is the old one with the new
+//! counts, all 0. The box is migrated again at any moment, with a page held or none.
 use super::super::call::GROUP;
 use super::super::leaving::between;
 use super::super::pair::Pair;
@@ -36,8 +35,8 @@ pub fn commands(seed: u64, count: usize) -> Checked {
         return Err("no page has left by itself".into());
     }
     pair.table.print();
-    let (tags, pairs, boxes) = (pair.tags.check()?, pair.table.check_migrated()?, boxes.check()?);
-    Ok(format!("commands side by side: {} events, {left} pages that left by themselves, {tags}, {pairs}, {boxes}", pair.index))
+    let (pairs, boxes) = (pair.table.check_migrated()?, boxes.check()?);
+    Ok(format!("commands side by side: {} events, {left} pages that left by themselves, {pairs}, {boxes}", pair.index))
 }
 
 fn event(server: &mut Server, boxes: &mut Boxes) -> Result<(), String> {

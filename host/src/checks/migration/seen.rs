@@ -5,13 +5,12 @@ use super::NONE;
 use std::collections::BTreeMap;
 
 /// What the random memories have to meet: each clause broken alone, and what is accepted.
-const SITUATIONS: [&str; 24] = [
+const SITUATIONS: [&str; 22] = [
     "length", "no groups", "17 to 64 groups", "more than 64 groups", "a group held that is not there", "the last time", "counts from G on",
     "byte 103", "a held group's count of 0", "a held group's count that is too high", "a held page without updates",
     "a held page of too many updates", "updates and none held", "page bytes and none held", "several clauses at once",
-    "a buffer of another length", "a buffer of another length, and not valid", "a serial of another length",
-    "a serial of another length, and not valid", "a page held", "none held", "a page of one update", "a page of 63 updates",
-    "the last group's page held",
+    "a buffer of another length", "a buffer of another length, and not valid", "a page held", "none held", "a page of one update",
+    "a page of 63 updates", "the last group's page held",
 ];
 
 pub struct Seen {
@@ -31,16 +30,15 @@ impl Seen {
         *count += u64::from(here);
     }
 
-    /// A memory that breaks these clauses, or comes with a buffer of another length, and a serial of the right one or not.
-    pub fn memory(&mut self, old: &[u8], broken: &[&'static str], serial: bool) {
-        if !serial {
-            self.note("a serial of another length", broken.is_empty());
-            return self.note("a serial of another length, and not valid", !broken.is_empty());
+    /// A memory that breaks these clauses, with a buffer of the right length or not.
+    pub fn memory(&mut self, old: &[u8], broken: &[&'static str], room: bool) {
+        if !room {
+            self.note("a buffer of another length", broken.is_empty());
+            return self.note("a buffer of another length, and not valid", !broken.is_empty());
         }
         match broken {
             [] => self.accepted(old),
             [one] => self.note(one, true),
-            [.., "a buffer of another length"] => self.note("a buffer of another length, and not valid", true),
             _ => self.note("several clauses at once", true),
         }
     }

@@ -1,5 +1,4 @@
 //! How much stack the archive's migration needs.
-use super::super::places::SERIAL;
 use super::super::stack::{used, MOST, PAINTED};
 use super::super::Checked;
 use super::{old_memory, NONE};
@@ -8,16 +7,15 @@ use crate::archive;
 pub fn check() -> Checked {
     let mut paint = vec![0; PAINTED];
     let [held, none] = [15, NONE].map(|held| old_memory(16, held));
-    let mut memory = [0xCC; 824];
-    let mut numbers = [9; 4];
+    let mut memory = [0xCC; 808];
+    let mut numbers = [9; 3];
     let most = used(&mut paint, &mut || {
-        numbers[0] = archive::migrate(&held, &SERIAL, &mut memory);
-        numbers[1] = archive::migrate(&none, &SERIAL, &mut memory);
-        numbers[2] = archive::migrate(&none[1..], &SERIAL, &mut memory);
-        numbers[3] = archive::migrate(&none, &SERIAL[1..], &mut memory);
+        numbers[0] = archive::migrate(&held, &mut memory);
+        numbers[1] = archive::migrate(&none, &mut memory);
+        numbers[2] = archive::migrate(&none[1..], &mut memory);
     });
-    if numbers != [0, 0, 1, 6] || most > MOST {
-        return Err(format!("stack: four migrations answered {numbers:?} and needed {most} bytes"));
+    if numbers != [0, 0, 1] || most > MOST {
+        return Err(format!("stack: three migrations answered {numbers:?} and needed {most} bytes"));
     }
     Ok(format!("{most} bytes of stack"))
 }

@@ -60,7 +60,6 @@ impl Damage<'_> {
         let last = [ABOUT, ABOUT, ABOUT + 4, 0, LATEST - self.random.below(20) as u32][self.random.below(5)];
         put_number(&mut made.memory, self.model.places.last_time, last);
         (0..made.blocks()).for_each(|block| made.set_entry(block, self.entry(last)));
-        self.random.fill(&mut made.memory[self.model.places.serial..]);
         self.chain(&mut made, last);
         if self.random.below(2) == 0 {
             self.hold(&mut made, last);

@@ -18,7 +18,7 @@ pub fn check(walks: &mut Walks) -> Checked {
         buffers(walks, &right, len, 66_560)?;
     }
     for len in [0, 1, 511, 512, 33_279, 33_280, 33_281, 66_048, 66_559, 66_560, 66_561, 67_072, 99_840, 532_480, 2_129_920] {
-        buffers(walks, &right, 824, len)?;
+        buffers(walks, &right, 808, len)?;
     }
     told(walks, &right)?;
     Ok(format!("lengths: {} walks", walks.made - before))
@@ -30,7 +30,7 @@ fn buffers(walks: &mut Walks, right: &Snapshot, memory_len: usize, disk_len: usi
     memory.resize(memory_len, 0);
     disk.resize(disk_len, 0);
     walks.load(&Snapshot { state: Vec::new(), memory, disk });
-    let number = [(memory_len == 824, 1), (disk_len == 66_560, 2)].iter().find(|(yes, _)| !yes).map_or(0, |(_, number)| *number);
+    let number = [(memory_len == 808, 1), (disk_len == 66_560, 2)].iter().find(|(yes, _)| !yes).map_or(0, |(_, number)| *number);
     walks.expect_number(&Walk::new(POINT, NOW), number)
 }
 
@@ -38,7 +38,7 @@ fn buffers(walks: &mut Walks, right: &Snapshot, memory_len: usize, disk_len: usi
 fn told(walks: &mut Walks, right: &Snapshot) -> Result<(), String> {
     walks.load(right);
     for off in (1..=64).chain([100, 128]) {
-        for len in [824 - off, 824 + off] {
+        for len in [808 - off, 808 + off] {
             walks.expect_number(&Walk { memory_len: Some(len), ..Walk::new(POINT, NOW) }, 1)?;
         }
         for len in [66_560 - off, 66_560 + off] {

@@ -61,6 +61,6 @@ impl Snapshot {
         set_count(&mut self.memory, group, 1);
         let at = places::of(&self.memory);
         self.memory[at.held..at.zero].copy_from_slice(&[group as u8, 1]);
-        places::held_page_mut(&mut self.memory).copy_from_slice(&self.disk[BLOCK * (65 * group + 64)..][..BLOCK]);
+        self.memory[at.page..].copy_from_slice(&self.disk[BLOCK * (65 * group + 64)..][..BLOCK]);
     }
 }

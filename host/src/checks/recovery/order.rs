@@ -45,6 +45,6 @@ fn spoil_memory(memory: &mut [u8], walk: &mut Walk, turn: usize) {
         2 => memory[PRESENT.groups] = 0,
         3 => memory[PRESENT.zero] = 1,
         4 => memory[PRESENT.last_time + 3] = 0x80,
-        _ => memory[PRESENT.serial - 1] = 1,
+        _ => memory[MEMORY - 1] = 1,
     }
 }

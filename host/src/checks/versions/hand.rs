@@ -132,7 +132,7 @@ fn leaving() -> Result<(), String> {
     same("block 1's entry on the disk", &s.a.disk[64 * 512 + 8..][..8], &[0, 0, 0, 0, 1, 0, 0, 0])?;
     s.puts(63, 1000, 63, 63)?;
     same("G, held and updates", &s.a.memory[292..296], &[2, 255, 0, 0])?;
-    same("the held page", &s.a.memory[296..808], &[0; 512])?;
+    same("the held page", &s.a.memory[296..], &[0; 512])?;
     same("the count", &s.a.memory[32..36], &[64, 0, 0, 0])?;
     let entry = [0xF4, 0x01, 0, 0, 0xD0, 0x07, 0, 0];
     same("the page on the disk", &s.a.disk[64 * 512..65 * 512], &entry.repeat(64))?;
@@ -154,7 +154,7 @@ fn refusals() -> Result<(), String> {
     let Store { a: Archive { memory: m, disk: d, .. }, state: t } = &mut s;
     answers("part 256", versions_put(t, m, d, 256, 999, &[]), 13)?;
     answers("a state short of a byte", versions_put(&mut t[..1535], m, d, 255, 999, &[]), 1)?;
-    answers("a memory short of a byte", versions_put(t, &mut m[..823], d, 255, 999, &[]), 1)?;
+    answers("a memory short of a byte", versions_put(t, &mut m[..807], d, 255, 999, &[]), 1)?;
     answers("a disk short of a byte", versions_put(t, m, &mut d[..33_279], 255, 999, &[]), 2)?;
     answers("a time gone back", versions_put(t, m, d, 255, 999, &[]), 4)?;
     answers("content of 511 bytes", versions_put(t, m, d, 255, 1000, &[0; 511]), 6)?;

@@ -5,7 +5,7 @@
 //! flush that does not ask for the updates, and a flush without records that does.
 use super::super::call::put_number;
 use super::super::leaving::Tally;
-use super::super::places::{held_page_mut, PRESENT};
+use super::super::places::PRESENT;
 use super::super::Checked;
 use super::snapshot::Snapshot;
 use super::stores::{Put, Stores, Told};
@@ -42,7 +42,7 @@ fn holding(held: u32, updates: u8, [next, replaced, reserve]: [u32; 3], pending:
     [0, 1].into_iter().for_each(|group| set_count(&mut made.memory, group, 1000));
     made.memory[PRESENT.held..PRESENT.zero].copy_from_slice(&[held as u8, updates]);
     let page = 512 * (65 * held as usize + 64);
-    held_page_mut(&mut made.memory).copy_from_slice(&made.disk[page..][..512]);
+    made.memory[PRESENT.page..].copy_from_slice(&made.disk[page..][..512]);
     made.set_entry(64 * held + 40, FROZEN);
     made.set_entry(64 * replaced + 20, FROZEN);
     put_number(&mut made.state, LAST_AT, 64 * next + 9);
@@ -134,7 +134,7 @@ fn validity(stores: &mut Stores, at: usize, byte: u8) -> Result<(), String> {
         let mut made = holding(0, 7, [0; 3], 5);
         if !held {
             made.memory[PRESENT.held..PRESENT.zero].copy_from_slice(&[255, 0]);
-            held_page_mut(&mut made.memory).fill(0);
+            made.memory[PRESENT.page..].fill(0);
             made.set_entry(20, FROZEN);
         }
         made.memory[at] = byte;

@@ -26,14 +26,14 @@ pub fn check(stores: &mut Stores) -> Checked {
         for len in around(1536) {
             state(stores, pending, len)?;
         }
-        for len in around(824) {
-            one(stores, pending, [1536, len, 66_560], if len == 824 { 0 } else { 1 })?;
+        for len in around(808) {
+            one(stores, pending, [1536, len, 66_560], if len == 808 { 0 } else { 1 })?;
         }
         for len in around(66_560) {
-            one(stores, pending, [1536, 824, len], if len == 66_560 { 0 } else { 2 })?;
+            one(stores, pending, [1536, 808, len], if len == 66_560 { 0 } else { 2 })?;
         }
         for len in around(512) {
-            load(stores, pending, 1536, 824, 66_560);
+            load(stores, pending, 1536, 808, 66_560);
             let mut put = Put::new(9, NOW);
             put.content.resize(len, 7);
             stores.expect_put(&put, if len == 512 { Ok(1) } else { Err(6) })?;
@@ -45,8 +45,8 @@ pub fn check(stores: &mut Stores) -> Checked {
 
 fn state(stores: &mut Stores, pending: usize, len: usize) -> Result<(), String> {
     let number = if len == 1536 { 0 } else { 1 };
-    one(stores, pending, [len, 824, 66_560], number)?;
-    load(stores, pending, len, 824, 66_560);
+    one(stores, pending, [len, 808, 66_560], number)?;
+    load(stores, pending, len, 808, 66_560);
     stores.expect_block(3, if number == 0 { Ok(u32::MAX) } else { Err(1) })?;
     stores.expect_start(5, None, number)
 }
@@ -66,12 +66,12 @@ fn told(stores: &mut Stores) -> Result<(), String> {
         for (told, number) in [
             (Told { state: Some(1535), ..Told::default() }, 1),
             (Told { state: Some(1537), ..Told::default() }, 1),
-            (Told { memory: Some(823), ..Told::default() }, 1),
-            (Told { memory: Some(825), ..Told::default() }, 1),
+            (Told { memory: Some(807), ..Told::default() }, 1),
+            (Told { memory: Some(809), ..Told::default() }, 1),
             (Told { disk: Some(66_559), ..Told::default() }, 2),
             (Told { disk: Some(66_561), ..Told::default() }, 2),
         ] {
-            load(stores, pending, 1536, 824, 66_560);
+            load(stores, pending, 1536, 808, 66_560);
             stores.expect_put(&Put { told, ..Put::new(9, NOW) }, Err(number))?;
             let asks = pending > 0 || told.state.is_some();
             stores.expect_flush(NOW, told, if asks { number } else { 0 })?;

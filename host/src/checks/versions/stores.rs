@@ -2,7 +2,6 @@
 //! every byte of state, memory, disk and content, and the canaries around them, are compared.
 use super::super::call::{number, GROUP};
 use super::super::pair::Pair;
-use super::super::places::any_serial;
 use super::super::room::Room;
 use super::seen::Seen;
 use super::snapshot::Snapshot;
@@ -69,7 +68,7 @@ impl Stores {
     /// Loads a formatted box, and starts a store on it.
     pub fn load_started(&mut self, groups: usize, lock: u32) -> Result<(), String> {
         self.load_state(&[0xAA; STATE]);
-        self.pair.load_formatted_over(&vec![0; GROUP * groups], 0, groups as u32, &[3; 32], &any_serial(self.pair.index))?;
+        self.pair.load_formatted_over(&vec![0; GROUP * groups], 0, groups as u32, &[3; 32])?;
         self.expect_start(lock, None, 0)
     }
 

@@ -1,4 +1,0 @@
--- Laws that the theorem cites, and the theorem.
-pub mod Computed
-pub mod BoxLaw
-pub mod Theorems
