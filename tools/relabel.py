@@ -49,7 +49,8 @@ def relabelled(text, of, name):
 
     head, body = re.match(r"((?:--[^\n]*\n|use [^\n]*\n|\s*\n)*)(.*)", text, re.S).groups()
     body = TIE.sub(tie, body)
-    body = FIELD.sub(lambda it: it[0] if body[: it.start()].endswith("tie") else field(it), body)
+    of_source = re.compile(r"(?:\btie|\.(?:args|ranges|requires|ensures|new|auto|type_inv|loop-[^\s.]*))\Z")
+    body = FIELD.sub(lambda it: it[0] if of_source.search(body, max(0, it.start() - 40), it.start()) else field(it), body)
     dashed = plain(name) + "-spec"
     body = re.sub(r"(?<![\w.-])%s(?![\w-])" % re.escape(dashed), name + "_spec", body)
     return head + body

@@ -1,6 +1,7 @@
 // A command's arguments: its kind, and questions 2 to 6, on the disk, the kind, the time, the address and the lengths. A function
 // for each, and all of them in order; those that are put to any call on a box, in order; and the entry that an update brings. The
 // contracts cite the definitions of machine, and of specs/ the list of the five.
+#![tactic(auto)]
 pub mod box_questions;
 pub mod kinds;
 

@@ -1,4 +1,5 @@
 // BLAKE3, the plain hash of 32 bytes. The contracts cite specs/Blake3.antt.
+#![tactic(auto)]
 mod chunk;
 mod tree;
 

@@ -1,6 +1,7 @@
 // Prints the digest of each length of BLAKE3's published test vectors that the digest takes, and of the longest input:
 // a line is the length, a space and the digest. Byte i of the input is i mod 251, as in the published vectors. The file
 // `stdout` beside src/ was written by b3sum: the script `expected` beside it writes it again.
+#![tactic(auto)]
 use libc::STDOUT_FILENO;
 use sockjade::sockjade_digest;
 

@@ -1,6 +1,7 @@
 // The states of many blocks in one go: a query. Its questions first, then each group named is fetched once and its numbers are answered.
 // The contract of `states`, which has no precondition, fixes its two numbers and every byte of memory and answer by the definitions
 // of machine.
+#![tactic(auto)]
 mod fill;
 mod links;
 
@@ -10,7 +11,7 @@ ghost use Rattle.machine.specs.Query.{query_step};
 ghost use Rattle.machine.specs.Call.{box_at, query_at, query_outcome_at};
 
 // What a query answers: its number, and the pages read.
-#[derive(Drop)]
+#[derive(Clone, Copy)]
 pub struct Answered {
     pub number: u32,
     pub pages: u32,

@@ -1,6 +1,7 @@
 // The controller: the questions that a command is asked, then its kind carried out. `command` has no precondition, and its contract
 // fixes the number answered and every byte of memory, disk and answer by the definitions of machine. The functions below it get the
 // kind in the place of a number and a value; their contracts cite specs/.
+#![tactic(auto)]
 ghost use Rattle.std.specs.Prelude.{◌≡◌};
 ghost use Rattle.lockpage.specs.Geometry.{present};
 ghost use Rattle.machine.specs.Question.{first_no};

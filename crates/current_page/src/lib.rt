@@ -1,5 +1,6 @@
 // The current page of a group, and a block's entry on it. The contracts cite the definitions of machine, and specs/ what is taken for
 // granted.
+#![tactic(auto)]
 ghost use Rattle.std.specs.Prelude.{◌≡◌, length};
 ghost use Rattle.lockpage.specs.Geometry.{present};
 ghost use Rattle.addressing.specs.Map.{group_of};

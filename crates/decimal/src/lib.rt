@@ -1,4 +1,5 @@
 // Numbers as text, in decimal. The contracts cite specs/.
+#![tactic(auto)]
 ghost use Rattle.std.specs.Prelude.{◌≡◌, ◌+◌, ◌≤◌, length};
 ghost use Rattle.octets.specs.Part.{replaced};
 ghost use Rattle.decimal.specs.Decimal.{decimal, signed_decimal};

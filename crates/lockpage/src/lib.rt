@@ -1,5 +1,6 @@
 // The lock page: entries, the states that they say, what the commands that change a page store. The contracts cite
 // specs/.
+#![tactic(auto)]
 pub mod entries;
 pub mod states;
 pub mod updates;
@@ -16,14 +17,14 @@ pub const ENTRIES_PER_PAGE: usize = 1 << INDEX_BITS;
 pub const PAGE_SIZE: usize = ENTRY_SIZE * ENTRIES_PER_PAGE;
 
 // An entry: "a 4-byte word, then a 4-byte stamp".
-#[derive(Drop)]
+#[derive(Clone, Copy)]
 pub struct Entry {
     pub word: u32,
     pub stamp: u32,
 }
 
 // A block's state.
-#[derive(Drop)]
+#[derive(Clone, Copy)]
 pub enum State {
     Free,
     Frozen,
@@ -31,7 +32,7 @@ pub enum State {
 }
 
 // What changes an entry: kind 4 with its lock, kind 5, kind 6 with its value.
-#[derive(Drop)]
+#[derive(Clone, Copy)]
 pub enum Update {
     Write(u32),
     Unfreeze,

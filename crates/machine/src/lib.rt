@@ -1,4 +1,5 @@
 // The controller as definitions, specs/, and theorems about them, proofs/. No function: what runs is above this crate.
+#![tactic(auto)]
 use lockpage::Update;
 
 // The numbers answered: the command is accepted, or the question that says no.
@@ -29,7 +30,7 @@ pub const SALT_UNCHANGED: u32 = 11;
 pub const LIST_SIZE_WRONG: u32 = 12;
 
 // What a command asks for. Kinds 4, 5 and 6 change a page.
-#[derive(Drop)]
+#[derive(Clone, Copy)]
 pub enum Kind {
     Read,
     Entry,

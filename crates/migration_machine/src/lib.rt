@@ -1,1 +1,2 @@
 // The migration as definitions, specs/, and theorems about them, proofs/: no code.
+#![tactic(auto)]

@@ -1,5 +1,7 @@
 // Bytes and little-endian numbers on lent slices. The contracts cite specs/: a part of a list, a list
 // with a part replaced, the digits of a number base 256.
+#![tactic(auto)]
+
 ghost use Rattle.std.specs.Prelude.{◌≡◌, ◌+◌, ◌*◌, ◌≤◌, ◌<◌, length};
 ghost use Rattle.octets.specs.Part.{part, replaced, repeated};
 ghost use Rattle.octets.specs.Part as P;

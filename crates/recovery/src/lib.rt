@@ -1,5 +1,6 @@
 // Recovery: the log is walked once, from the first block on, and each part's last record that counts is in the result. The contract of
 // `recover`, which has no precondition, fixes its number and every byte of the result by the definitions of recovery_machine.
+#![tactic(auto)]
 ghost use Rattle.std.specs.Prelude.{◌≡◌, List, ℕ};
 ghost use Rattle.lockpage.specs.Geometry.{present};
 ghost use Rattle.memory.specs.Memory.{groups};

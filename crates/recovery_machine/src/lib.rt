@@ -1,1 +1,2 @@
 // Recovery as definitions, specs/, and theorems about them, proofs/: no code.
+#![tactic(auto)]

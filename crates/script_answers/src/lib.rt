@@ -1,4 +1,5 @@
 // A line of a script: its command is run, and what it answers is printed. The contracts cite specs/.
+#![tactic(auto)]
 pub mod printing;
 
 ghost use Rattle.std.specs.Prelude.{◌≡◌};
@@ -22,7 +23,7 @@ const ENTRY_KIND: u32 = 2;
 const PAGE_KIND: u32 = 3;
 
 // What is printed of an answer: its number, and the state and time left of an entry.
-#[derive(Drop)]
+#[derive(Clone, Copy)]
 pub struct Shown {
     pub number: u32,
     pub state: u8,

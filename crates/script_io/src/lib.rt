@@ -1,6 +1,7 @@
 // The script program's input and output: a script is read from a descriptor piece by piece, and what the pieces print is written to
 // standard output. No contract can say what is read or written; steps has what is done with it, and the claim TurnsPrinted what the turns
 // then write.
+#![tactic(auto)]
 mod steps;
 
 ghost use Rattle.std.specs.Prelude.{◌≡◌};
@@ -18,7 +19,7 @@ use script_printout::Reader;
 const PIECE_SIZE: usize = 512;
 
 // A turn: what the read answered, what the step on it left, and whether all that it printed is written.
-#[derive(Drop)]
+#[derive(Clone, Copy)]
 pub struct Turn {
     pub got: isize,
     pub fed: Fed,

@@ -1,5 +1,6 @@
 // A script's lines of four values, read byte by byte: what is kept of a line is its values, whatever its length. The contracts cite
 // specs/: the form of a line, and the steps of reading one.
+#![tactic(auto)]
 ghost use Rattle.std.specs.Prelude.{◌≡◌, ◌<◌};
 ghost use Rattle.script_lines.specs.Reading as R;
 
@@ -15,7 +16,7 @@ const MOST_VALUE: u64 = 4294967295;
 const BEFORE_LAST: u32 = 3;
 
 // The values of a line.
-#[derive(Drop)]
+#[derive(Clone, Copy)]
 pub struct Values {
     pub kind: u32,
     pub block: u32,
@@ -24,7 +25,7 @@ pub struct Values {
 }
 
 // What is read of a line: how many values stand before a space, the last three of them, and the value behind them, if begun.
-#[derive(Drop)]
+#[derive(Clone, Copy)]
 pub struct Line {
     pub count: u32,
     pub first: u32,
@@ -35,14 +36,14 @@ pub struct Line {
 }
 
 // A line that may yet be right, or not.
-#[derive(Drop)]
+#[derive(Clone, Copy)]
 pub enum Next {
     Going(Line),
     Wrong,
 }
 
 // A whole line: its values, or not of the form.
-#[derive(Drop)]
+#[derive(Clone, Copy)]
 pub enum Judged {
     Right(Values),
     Malformed,

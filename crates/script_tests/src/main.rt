@@ -1,4 +1,5 @@
 // The script program on the tests' scripts, the files of data/, one after the other.
+#![tactic(auto)]
 fn run_script(name: &[u8]) {
     let descriptor = os::open_read(name);
     if descriptor < 0 {

@@ -2,6 +2,7 @@
 // contract fixes the number answered and every byte of each buffer: the digest's by specs/, the version
 // store's by the definitions of versions_bytes, recovery's by those of recovery_machine, the migration's by those of migration_machine, the
 // others by those of machine.
+#![tactic(auto)]
 ghost use Rattle.std.specs.Prelude.{◌≡◌};
 ghost use Rattle.lockpage.specs.Geometry.{base, present};
 ghost use Rattle.machine.specs.Step.{step};

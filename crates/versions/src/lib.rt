@@ -1,6 +1,7 @@
 // The version store: versions of parts in free blocks under one lock, the newest of each known, and a log on the disk. It reads memory and
 // disk, and alters them by controller::update alone. Its calls have no precondition, and their contracts fix the numbers answered and
 // every byte of state, memory and disk by the definitions of versions_bytes.
+#![tactic(auto)]
 ghost use Rattle.std.specs.Prelude.{◌≡◌};
 ghost use Rattle.lockpage.specs.Geometry.{present};
 ghost use Rattle.memory.specs.Memory.{groups};
@@ -11,7 +12,7 @@ ghost use Rattle.versions_bytes.specs.Call.{located_of, called_at, started_at, s
 use versions_steps::{allocation, log, version};
 
 // What a put and a lookup answer: the number, and the block, which is 0 where the number is not.
-#[derive(Drop)]
+#[derive(Clone, Copy)]
 pub struct Answered {
     pub number: u32,
     pub block: u32,

@@ -1,5 +1,6 @@
 // The number by which one of a put's commands will be refused, before the first is given. The contracts cite versions_machine's
 // foreseen, and specs/ for the commands and what holds between them.
+#![tactic(auto)]
 ghost use Rattle.std.specs.Prelude.{◌≡◌, true, [], ◌∷◌, ◌≤◌, ◌^◌, eqb, ltb, length};
 ghost use Rattle.lockpage.specs.Geometry.{present};
 ghost use Rattle.lockpage.specs.Size.{block_size};

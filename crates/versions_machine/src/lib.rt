@@ -1,5 +1,6 @@
 // The version store above the controller as definitions, specs/, and theorems about them, proofs/. No function: what runs is above this
 // crate.
+#![tactic(auto)]
 
 // The numbers answered besides those of machine.
 pub const PART_OUT_OF_RANGE: u32 = 13;

@@ -1,5 +1,6 @@
 // One command of the version store's, given to the controller. The contracts cite the definitions of versions_machine, and specs/ what
 // is taken for granted.
+#![tactic(auto)]
 ghost use Rattle.std.specs.Prelude.{◌≡◌, [], ◌∷◌};
 ghost use Rattle.lockpage.specs.Geometry.{present};
 ghost use Rattle.addressing.specs.Map.{group_of};

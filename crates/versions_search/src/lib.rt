@@ -1,4 +1,5 @@
 // Which block is allocated next. The contracts cite the definitions of versions_machine, and specs/ what is taken for granted.
+#![tactic(auto)]
 ghost use Rattle.std.specs.Prelude.{◌≡◌, true, ◌-◌, length};
 ghost use Rattle.lockpage.specs.Geometry.{present};
 ghost use Rattle.addressing.specs.Map.{data_blocks, group_of};
@@ -15,7 +16,7 @@ use lockpage::{State, states};
 use versions_machine::FIRST_BLOCK;
 
 // The block that is allocated next, and whether another one besides it is available.
-#[derive(Drop)]
+#[derive(Clone, Copy)]
 pub struct Found {
     pub block: u32,
     pub two: bool,

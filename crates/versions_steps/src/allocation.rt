@@ -8,7 +8,7 @@ ghost use Rattle.versions_state.specs.State.{is_valid};
 ghost use Rattle.versions_steps.specs.Ready.{Allocated};
 
 // The number of the question that said no, or 0, and then the block.
-#[derive(Drop)]
+#[derive(Clone, Copy)]
 pub struct Taken {
     pub number: u32,
     pub block: u32,

@@ -1,4 +1,5 @@
 // What becomes of the held page: it is put on the disk, changed or lost. The contracts cite the definitions of machine.
+#![tactic(auto)]
 ghost use Rattle.std.specs.Prelude.{◌≡◌, true};
 ghost use Rattle.lockpage.specs.Geometry.{present};
 ghost use Rattle.validity.specs.Valid.{valid};

@@ -11,7 +11,7 @@ returns : tie.Need-returns
 returns c =
     let stored = c.before.before in
     let start = stored.before.before.before.before in
-    stored.store_u64.ensures ∙ ap (with_number start.args.s-1.now start.args.at 8)
+    stored.store_u64.ensures ∙ ap (with_number start.args.s.now start.args.at 8)
     (stored.before.bits.ensures ∙ ap twos (signed_twos start.args.z start.ranges.z))
 
 pub store_i64_spec : {M : Type 1} → statement M

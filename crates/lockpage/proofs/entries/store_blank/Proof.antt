@@ -12,13 +12,13 @@ use Rattle.lockpage.proofs.PageLaw.{repeated_entry_start, repeated_entry_step, r
 use Rattle.lockpage.proofs.entries.store_blank.Statement.{statement}
 use Rattle.lockpage.proofs.entries.store_blank.Tie as tie
 
-abbrev invariant-loop : tie.invariant-loop
+abbrev invariant-loop : tie.invariant-loop-i
 invariant-loop page₀ i₀ page i = (i ≤ present.entries) × ((length page ≡ length page₀) × (page ≡ replaced page₀ 0 (repeated_entry i blank_entry)))
 
-abbrev decreases-loop : tie.decreases-loop
+abbrev decreases-loop : tie.decreases-loop-i
 decreases-loop page₀ i₀ page i = present.entries - i
 
-loop-again : tie.Need-loop-preserved invariant-loop decreases-loop
+loop-again : tie.Need-loop-i-preserved invariant-loop decreases-loop
 loop-again c =
     let stored = c.before.before in
     let test = stored.before.before in
@@ -27,17 +27,17 @@ loop-again c =
       search rules,
       (
         search rules,
-        repeated_entry_step σ _ _ _ _ _ inside (omega (arith, test.loop-test.true)) loop.loop.invariant.1.1 stored.store_entry.ensures,
+        repeated_entry_step σ _ _ _ _ _ inside (omega (arith, test.loop-i-test.true)) loop.loop-i.invariant.1.1 stored.store_entry.ensures,
       ),
     )
 
 returns : tie.Need-returns invariant-loop decreases-loop
 returns c =
-    let inv = c.before.loop.invariant in
-    repeated_entry_end σ _ _ _ c.before.before.before.requires (omega (arith, c.loop-test.false, inv.0)) inv.1.1
+    let inv = c.before.loop-i.invariant in
+    repeated_entry_end σ _ _ _ c.before.before.before.requires (omega (arith, c.loop-i-test.false, inv.0)) inv.1.1
 
-pub store-blank-spec : {M : Type 1} → statement M
-store-blank-spec =
+pub store_blank_spec : {M : Type 1} → statement M
+store_blank_spec =
     tie.close
     (tie.spec invariant-loop decreases-loop (λ c. (search rules, (search rules, repeated_entry_start _ _))) (λ c κs. search rules) (λ c. search rules)
-    (λ c. search rules) loop-again (λ c. c.before.loop.invariant.1.0) returns)
+    (λ c. search rules) loop-again (λ c. c.before.loop-i.invariant.1.0) returns)

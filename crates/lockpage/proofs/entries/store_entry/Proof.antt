@@ -8,8 +8,8 @@ returns : tie.Need-returns
 returns c =
     let second = c.before.before in
     let first = second.before.before.before.before in
-    entry_stored _ _ _ _ _ first.before.before.before.requires first.store-u32.ensures second.store-u322.ensures
+    entry_stored _ _ _ _ _ first.before.before.before.requires first.store_u32.ensures second.store_u32-2.ensures
 
-pub store-entry-spec : {M : Type 1} → statement M
-store-entry-spec =
+pub store_entry_spec : {M : Type 1} → statement M
+store_entry_spec =
     tie.close (tie.spec (λ c. search rules) (λ c κs. search rules) (λ c. search rules) (λ c κs. search rules) (λ c. search rules) returns)

@@ -8,5 +8,5 @@ returns : tie.Need-returns
 unfolding is_frozen flag
 returns c = search rules
 
-pub is-frozen-spec : {M : Type 1} → statement M
-is-frozen-spec = tie.close (tie.spec returns)
+pub is_frozen_spec : {M : Type 1} → statement M
+is_frozen_spec = tie.close (tie.spec returns)

@@ -4,17 +4,17 @@ use Rattle.lockpage.specs.State.{state_number}
 use Rattle.lockpage.proofs.states.state_number.Statement.{statement}
 use Rattle.lockpage.proofs.states.state_number.Tie as tie
 
-free : tie.Need-returns
+free : tie.Need-returns-in-Free
 unfolding state_number
-free c = rw c.enum_told.given.1
+free c = rw c.enum_told-1.given.1
 
-frozen : tie.Need-returns-2
+frozen : tie.Need-returns-in-Frozen
 unfolding state_number
-frozen c = rw c.enum-told2.given.1
+frozen c = rw c.enum_told-in-Frozen-1.given.1
 
-counting : tie.Need-returns-3
+counting : tie.Need-returns-in-Counting
 unfolding state_number
-counting c = rw c.enum-told3.given.1
+counting c = rw c.enum_told-in-Counting-1.given.1
 
-pub state-number-spec : {M : Type 1} → statement M
-state-number-spec = tie.close (tie.spec (λ c. search rules) (λ c. search rules) (λ c. search rules) free frozen counting)
+pub state_number_spec : {M : Type 1} → statement M
+state_number_spec = tie.close (tie.spec (λ c. search rules) (λ c. search rules) (λ c. search rules) free frozen counting)

@@ -16,28 +16,28 @@ use Rattle.lockpage.proofs.states.time_left.Tie as tie
 cast : (n : ℕ) → n < 256 ^ word_size → to_z w64 n ≡ pos n
 cast n h = to_z_pos w64 n (omega arith)
 
-lock : tie.Need-returns
+lock : tie.Need-returns-then-is_frozen
 lock c =
     let asked = c.before in
-    cast _ c.struct_known.given.0.fits ∙ sym (left_frozen _ _ (sym asked.before.is_frozen_is.ensures ∙ asked.if1.true))
+    cast _ c.struct_known-1.given.0.fits ∙ sym (left_frozen _ _ (sym asked.before.is_frozen_is.ensures ∙ asked.if-is_frozen.true))
 
 sub-result : tie.Need-overflow-sub-result
 sub-result c =
     let start = c.before.before.before in
-    let word = c.struct-known2.given.0.fits in
+    let word = c.struct_known-2-1.given.0.fits in
     let time : start.args.time < 256 ^ word_size = omega (arith, start.ranges.time) in
     rw (cast start.args.e.word word, cast start.args.time time) (minus_fits _ _ word time)
 
-less : tie.Need-returns-2
+less : tie.Need-returns
 less c =
     let asked = c.before in
     let start = asked.before.before in
-    let word = c.struct-known2.given.0.fits in
+    let word = c.struct_known-2-1.given.0.fits in
     let time : start.args.time < 256 ^ word_size = omega (arith, start.ranges.time) in
     rw (cast start.args.e.word word, cast start.args.time time)
-    (to_z-of_z w64 _ (minus_fits _ _ word time) ∙ sym (left_unfrozen _ _ (sym asked.before.is_frozen_is.ensures ∙ asked.if1.false)))
+    (to_z-of_z w64 _ (minus_fits _ _ word time) ∙ sym (left_unfrozen _ _ (sym asked.before.is_frozen_is.ensures ∙ asked.if-is_frozen.false)))
 
-pub time-left-spec : {M : Type 1} → statement M
-time-left-spec =
+pub time_left_spec : {M : Type 1} → statement M
+time_left_spec =
     tie.close
     (tie.spec (λ c κs. search rules) (λ c. search rules) lock (λ c. search rules) (λ c. search rules) sub-result less)

@@ -6,20 +6,20 @@ use Rattle.lockpage.specs.Update.{updated}
 use Rattle.lockpage.proofs.updates.new_stamp.Statement.{statement}
 use Rattle.lockpage.proofs.updates.new_stamp.Tie as tie
 
-write : tie.Need-returns
+write : tie.Need-returns-in-Write
 unfolding updated
-write c = rw c.enum_told.given.1 (omega arith)
+write c = rw c.enum_told-1.given.1 (omega arith)
 
-unfreeze : tie.Need-returns-2
+unfreeze : tie.Need-returns-in-Unfreeze
 unfolding updated time_of_write
-unfreeze c = rw c.before.enum-told2.given.1 (omega arith)
+unfreeze c = rw c.before.enum_told-in-Unfreeze-1.given.1 (omega arith)
 
-increment : tie.Need-returns-3
+increment : tie.Need-returns-in-Increment
 unfolding updated
-increment c = rw c.enum-told3.given.1
+increment c = rw c.enum_told-in-Increment-1.given.1
 
-pub new-stamp-spec : {M : Type 1} → statement M
-new-stamp-spec =
+pub new_stamp_spec : {M : Type 1} → statement M
+new_stamp_spec =
     tie.close
     (tie.spec (λ c. search rules) (λ c. search rules) (λ c. search rules) (λ c. search rules) (λ c. search rules) (λ c. search rules)
     write unfreeze increment)
