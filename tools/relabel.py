@@ -17,6 +17,17 @@ TIE = re.compile(r"\btie\.([^\s(){}.;,]+)")
 plain = lambda it: it.replace("_", "-")
 
 
+def spellings(word):
+    """A label as it stands, and as it stood where a script took it for a name of specs/: new_IsWord of new-word, is_frozen_is of is-frozen."""
+    yield plain(word)
+    yield plain(re.sub(r"_(is|lem)\Z", "", word))
+    yield plain(re.sub(r"_?Is([A-Z])", lambda it: "-" + it[1].lower(), word))
+
+
+def looked_up(word, table):
+    return next((table[it] for it in spellings(word) if it in table), None)
+
+
 def tables(of):
     """The functions or cycle's needs, places, steps and loops by their old names, with dashes for underscores."""
     needs = {plain(old): new for old, new in of["needs"]}
@@ -30,6 +41,34 @@ def tables(of):
     return needs, places, fields, loops
 
 
+def split_terms(text):
+    """The arguments of a call: terms apart at the outermost blanks."""
+    out, depth, at = [], 0, 0
+    for k, it in enumerate(text + " "):
+        depth += (it in "([{") - (it in ")]}")
+        if it.isspace() and depth == 0:
+            out += [text[at:k]] if text[at:k].strip() else []
+            at = k + 1
+        if depth < 0:
+            return out + ([text[at:k].strip()] if text[at:k].strip() else [])
+    return [it.strip() for it in out]
+
+
+def by_position(body, needs, loops):
+    """Gives each answer that `tie.spec` names the need at its position, where there are as many as the function has."""
+    found = re.search(r"\(\s*tie\.spec(?=\s)", body)
+    if not found:
+        return body
+    terms = split_terms(body[found.end() :])
+    given = terms[2 * loops :]
+    if len(given) != len(needs):
+        return body
+    for term, need in zip(given, needs):
+        if re.fullmatch(r"[\w'-]+", term):
+            body = re.sub(r"(?m)^(%s :\s+)tie\.Need-[^\s(){}.;,]+" % re.escape(term), lambda it: f"{it[1]}tie.Need-{need}", body)
+    return body
+
+
 def relabelled(text, of, name):
     needs, places, fields, loops = tables(of)
     known = set(places.values()) | set(fields.values())
@@ -37,20 +76,24 @@ def relabelled(text, of, name):
     def tie(found):
         word = found[1]
         for head in ("Need-", "the-"):
-            if word.startswith(head) and plain(word[len(head) :]) in needs:
-                return f"tie.{head}{needs[plain(word[len(head):])]}"
+            to = looked_up(word[len(head) :], needs) if word.startswith(head) else None
+            if to:
+                return f"tie.{head}{to}"
         for head in ("invariant-", "decreases-"):
             if word.startswith(head) and plain(word[len(head) :]) in loops:
                 return f"tie.{head}{loops[plain(word[len(head):])]}"
-        return f"tie.{places.get(plain(word), word)}"
+        return f"tie.{looked_up(word, places) or word}"
 
     def field(found):
-        return "." + (found[1] if found[1] in known else fields.get(plain(found[1]), found[1]))
+        if found[1] in ("type-inv", "well-formed", "loan-name"):
+            return "." + found[1].replace("-", "_")
+        return "." + (found[1] if found[1] in known else looked_up(found[1], fields) or found[1])
 
     head, body = re.match(r"((?:--[^\n]*\n|use [^\n]*\n|\s*\n)*)(.*)", text, re.S).groups()
     body = TIE.sub(tie, body)
     of_source = re.compile(r"(?:\btie|\.(?:args|ranges|requires|ensures|new|auto|type_inv|loop-[^\s.]*))\Z")
     body = FIELD.sub(lambda it: it[0] if of_source.search(body, max(0, it.start() - 40), it.start()) else field(it), body)
+    body = by_position(body, [new for _, new in of["needs"]], len(of["loops"]))
     dashed = plain(name) + "-spec"
     body = re.sub(r"(?<![\w.-])%s(?![\w-])" % re.escape(dashed), name + "_spec", body)
     return head + body

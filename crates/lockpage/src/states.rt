@@ -30,6 +30,7 @@ pub fn state(e: Entry, time: u32) -> State
 }
 
 // The state's number in an answer.
+#[tactic(auto, unfolding(crate::specs::State::state_number))]
 pub fn state_number(s: State) -> u8
     ensures { result ≡ state_number s }
 {

@@ -12,6 +12,7 @@ pub const LONGEST_LOCK: u64 = 2147483647;
 const LATEST_EXPIRY: u64 = 4294967295;
 
 // Whether the update may be made in the state.
+#[tactic(auto, unfolding(crate::specs::Update::allowed))]
 pub fn allowed(u: Update, s: State) -> bool
     ensures { result ≡ U.allowed u s }
 {
@@ -46,6 +47,7 @@ fn expiry_at(time: u32, lock: u32) -> u64
 }
 
 // The word that the update stores, which may be too large too.
+#[tactic(auto, unfolding(crate::specs::Update::updated))]
 fn new_word(u: Update, time: u32, e: Entry) -> u64
     ensures { result ≡ (U.updated u time e).word }
 {
@@ -57,6 +59,7 @@ fn new_word(u: Update, time: u32, e: Entry) -> u64
 }
 
 // The stamp that the update stores.
+#[tactic(auto, unfolding(crate::specs::Update::updated))]
 fn new_stamp(u: Update, time: u32, e: Entry) -> u32
     requires { time ≤ latest_time }
     ensures { result ≡ (U.updated u time e).stamp }

@@ -7,7 +7,7 @@ use Rattle.lockpage.proofs.states.store_time_left.Tie as tie
 returns : tie.Need-returns
 returns c =
     let stored = c.before.before in
-    left_stored _ _ _ _ _ _ (record { sfits = stored.before.time_left_is.type-inv }) stored.store_i64.ensures stored.before.time_left_is.ensures
+    left_stored _ _ _ _ _ _ (record { sfits = stored.before.time_left.type_inv }) stored.store_i64.ensures stored.before.time_left.ensures
 
 pub store_time_left_spec : {M : Type 1} → statement M
 store_time_left_spec = tie.close (tie.spec (λ c κs. search rules) (λ c κs. search rules) (λ c. search rules) returns)

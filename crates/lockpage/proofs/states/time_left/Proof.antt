@@ -19,9 +19,9 @@ cast n h = to_z_pos w64 n (omega arith)
 lock : tie.Need-returns-then-is_frozen
 lock c =
     let asked = c.before in
-    cast _ c.struct_known-1.given.0.fits ∙ sym (left_frozen _ _ (sym asked.before.is_frozen_is.ensures ∙ asked.if-is_frozen.true))
+    cast _ c.struct_known-1.given.0.fits ∙ sym (left_frozen _ _ (sym asked.before.is_frozen.ensures ∙ asked.if-is_frozen.true))
 
-sub-result : tie.Need-overflow-sub-result
+sub-result : tie.Need-overflow_sub-result
 sub-result c =
     let start = c.before.before.before in
     let word = c.struct_known-2-1.given.0.fits in
@@ -35,7 +35,7 @@ less c =
     let word = c.struct_known-2-1.given.0.fits in
     let time : start.args.time < 256 ^ word_size = omega (arith, start.ranges.time) in
     rw (cast start.args.e.word word, cast start.args.time time)
-    (to_z-of_z w64 _ (minus_fits _ _ word time) ∙ sym (left_unfrozen _ _ (sym asked.before.is_frozen_is.ensures ∙ asked.if-is_frozen.false)))
+    (to_z-of_z w64 _ (minus_fits _ _ word time) ∙ sym (left_unfrozen _ _ (sym asked.before.is_frozen.ensures ∙ asked.if-is_frozen.false)))
 
 pub time_left_spec : {M : Type 1} → statement M
 time_left_spec =

@@ -7,11 +7,11 @@ use Rattle.lockpage.proofs.UpdateLaw.{within_most}
 use Rattle.lockpage.proofs.updates.updated.Statement.{statement}
 use Rattle.lockpage.proofs.updates.updated.Tie as tie
 
-cast-word : tie.Need-overflow-cast-t6
-cast-word c = omega (arith, c.before.new_IsWord.ensures, within_most _ c.before.before.requires.1)
+cast-word : tie.Need-overflow_cast-result
+cast-word c = omega (arith, c.before.new_word-word.ensures, within_most _ c.before.before.requires.1)
 
 returns : tie.Need-returns
-returns c = ap₂ entry c.before.new_IsWord.ensures c.new_stamp-stamp.ensures
+returns c = ap₂ entry c.before.new_word-word.ensures c.new_stamp-stamp.ensures
 
 pub updated_spec : {M : Type 1} → statement M
 updated_spec = tie.close (tie.spec (λ c κs. search rules) (λ c κs. search rules) cast-word returns)
