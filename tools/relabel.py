@@ -104,6 +104,12 @@ def relabelled(text, of, name):
 
     body = FIELD.sub(in_place, body)
     body = by_position(body, [new for _, new in of["needs"]], len(of["loops"]))
+    # Today a test of `!x` says what it says of x.
+    body = re.sub(r"(\.(?:if|loop)[^\s.]*)\.taken\b", r"\1.true", body)
+    body = re.sub(r"(\.(?:if|loop)[^\s.]*)\.left\b", r"\1.false", body)
+    body = re.sub(r"\beq-(?:true|false)_of_not-eq-(?:true|false)' (?=[\w.-]+\.(?:true|false)\b)", "", body)
+    body = re.sub(r"(?<=[\w)])\.pre\b", ".requires", body)
+    body = re.sub(r"(?<=[\w)])\.inv\b", ".invariant", body)
     dashed = plain(name) + "-spec"
     body = re.sub(r"(?<![\w.-])%s(?![\w-])" % re.escape(dashed), name + "_spec", body)
     return head + body
