@@ -18,7 +18,9 @@ pub message-requires : goal.message-requires
 message-requires c = block_within _ _ (omega (arith, c.loop-k-test.true, c.loop-k.invariant.1))
 
 pub overflow_sub-s : goal.overflow_sub-s
-overflow_sub-s c = block_within _ _ (omega (arith, c.loop-k-test.true, c.loop-k.invariant.1))
+overflow_sub-s c =
+    let within = block_within (length c.args.s.now) c.loop-k.k (omega (arith, c.loop-k-test.true, c.loop-k.invariant.1)) in
+    omega arith
 
 pub loop-k-preserved : goal.loop-k-preserved
 loop-k-preserved c =
