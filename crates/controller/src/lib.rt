@@ -27,8 +27,8 @@ pub fn update(
     answer: &mut [u8],
 ) -> u32
     requires { first_no (first_questions present (Kind.Change u) (box_at memory disk) (command_at 0 block time 0 content proof answer)) ≡ 0 }
-    ensures { ComesTo present (Kind.Change u) (box_at memory.entry disk.entry)
-        (command_at 0 block time 0 content.entry proof.entry answer.entry) (outcome_at result memory.exit disk.exit answer.exit) }
+    ensures { ComesTo present (Kind.Change u) (box_at memory.old disk.old)
+        (command_at 0 block time 0 content.now proof.now answer.old) (outcome_at result memory.new disk.new answer.new) }
 {
     let refusal = questions::change::refusal(memory, u, block, time, proof);
     if refusal != machine::ACCEPTED {
@@ -49,8 +49,8 @@ fn new_salt(
     answer: &mut [u8],
 ) -> u32
     requires { first_no (first_questions present Kind.NewSalt (box_at memory disk) (command_at 0 block time 0 content proof answer)) ≡ 0 }
-    ensures { ComesTo present Kind.NewSalt (box_at memory.entry disk.entry)
-        (command_at 0 block time 0 content.entry proof.entry answer.entry) (outcome_at result memory.exit disk.exit answer.exit) }
+    ensures { ComesTo present Kind.NewSalt (box_at memory.old disk.old)
+        (command_at 0 block time 0 content.now proof.now answer.old) (outcome_at result memory.new disk.new answer.new) }
 {
     let unchanged = questions::salt_refusal(memory, content);
     if unchanged != machine::ACCEPTED {
@@ -72,8 +72,8 @@ fn carry_out(
     answer: &mut [u8],
 ) -> u32
     requires { first_no (first_questions present k (box_at memory disk) (command_at 0 block time 0 content proof answer)) ≡ 0 }
-    ensures { ComesTo present k (box_at memory.entry disk.entry)
-        (command_at 0 block time 0 content.entry proof.entry answer.entry) (outcome_at result memory.exit disk.exit answer.exit) }
+    ensures { ComesTo present k (box_at memory.old disk.old)
+        (command_at 0 block time 0 content.now proof.now answer.old) (outcome_at result memory.new disk.new answer.new) }
 {
     match k {
         Kind::Read => shows::read(memory, disk, block, time, answer),
@@ -105,9 +105,9 @@ pub fn command(
     proof: &[u8],
     answer: &mut [u8],
 ) -> u32
-    ensures { outcome_at result memory.exit disk.exit answer.exit
-        ≡ step present (box_at memory.entry disk.entry)
-        (command_at kind block time value content.entry proof.entry answer.entry) }
+    ensures { outcome_at result memory.new disk.new answer.new
+        ≡ step present (box_at memory.old disk.old)
+        (command_at kind block time value content.now proof.now answer.old) }
 {
     let number = questions::refusal(
         memory, disk, kind, value, block, time, content, proof, answer,

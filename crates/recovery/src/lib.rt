@@ -25,7 +25,7 @@ pub const RESULT_SIZE: usize = layout::NEWESTS_SIZE;
 
 // Questions 1, 2, 4 and 6: the number of the first that says no, or 0.
 fn refusal(memory: &[u8], disk: &[u8], time: u32, res: &[u8]) -> u32
-    ensures { result ≡ first_no (recover_questions present (box_at memory.entry disk.entry) time res.now) }
+    ensures { result ≡ first_no (recover_questions present (box_at memory.now disk.now) time res.now) }
 {
     let number = arguments::box_questions::refusal(memory, disk, time);
     if number != machine::ACCEPTED {
@@ -49,7 +49,7 @@ fn goes_on(
 ) -> bool
     requires { StepReady present (box_at memory disk) marks.now block }
     ensures { (walked : List ℕ) → Marks marks.now walked
-        → result ≡ goes_on present (whole_box present (groups present memory.now)) (box_at memory.entry disk.entry) point time walked parent block }
+        → result ≡ goes_on present (whole_box present (groups present memory.now)) (box_at memory.now disk.now) point time walked parent block }
 {
     let e = current_page::entry(memory, disk, block);
     if !records::says_kept(e, point, time) {
@@ -65,7 +65,7 @@ fn goes_on(
 fn walk(memory: &[u8], disk: &[u8], point: u32, time: u32, res: &mut [u8])
     requires { WalkReady present (box_at memory disk) res.old }
     ensures { res.new
-        ≡ newest_bytes (recovered present (whole_box present (groups present memory.now)) (box_at memory.entry disk.entry) point time) 0 parts }
+        ≡ newest_bytes (recovered present (whole_box present (groups present memory.now)) (box_at memory.now disk.now) point time) 0 parts }
 {
     let end = versions_search::end_of(memory);
     let mut marks = [0u8; marks::MARKS_SIZE];
@@ -91,8 +91,8 @@ fn walk(memory: &[u8], disk: &[u8], point: u32, time: u32, res: &mut [u8])
 
 // The parts that the log has by the point: 0 with their blocks in the result; where its number is not 0, no byte is changed.
 pub fn recover(memory: &[u8], disk: &[u8], point: u32, time: u32, res: &mut [u8]) -> u32
-    ensures { recovery_at result res.exit
-        ≡ R.recover present (whole_box present (groups present memory.now)) (box_at memory.entry disk.entry) point time res.old }
+    ensures { recovery_at result res.new
+        ≡ R.recover present (whole_box present (groups present memory.now)) (box_at memory.now disk.now) point time res.old }
 {
     let number = refusal(memory, disk, time, res);
     if number != machine::ACCEPTED {

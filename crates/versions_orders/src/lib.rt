@@ -17,7 +17,7 @@ fn bring(memory: &[u8], disk: &[u8], block: u32, proof: &mut [u8])
     requires { BringReady present (box_at memory disk) block proof.old }
     ensures { proof.new
         ≡ tagged present memory.now (group_of present block)
-        (current_page present (box_at memory.entry disk.entry) (group_of present block)) }
+        (current_page present (box_at memory.now disk.now) (group_of present block)) }
 {
     let group = addressing::group_of(block);
     current_page::fetch(memory, disk, group, &mut proof[0..PAGE_SIZE]);
@@ -34,8 +34,8 @@ pub fn give(
     content: &[u8],
 ) -> u32
     requires { OrderReady present (box_at memory disk) time }
-    ensures { carried_of result (box_at memory.exit disk.exit)
-        ≡ carried_out present (box_at memory.entry disk.entry) (order_of u block time content.now ∷ []) }
+    ensures { carried_of result (box_at memory.new disk.new)
+        ≡ carried_out present (box_at memory.old disk.old) (order_of u block time content.now ∷ []) }
 {
     if block as usize >= addressing::data_blocks(memory::groups(memory)) {
         return machine::ADDRESS_OUT_OF_RANGE;

@@ -26,7 +26,7 @@ pub fn forecast(
 ) -> u32
     requires { PutReady present (whole_box present (groups present memory.now)) state.now (box_at memory disk) part block time }
     ensures { result ≡ (M.put present (whole_box present (groups present memory.now)) (versions_in state.now)
-        (box_at memory.entry disk.entry) part time content.now).number }
+        (box_at memory.now disk.now) part time content.now).number }
 {
     versions_forecast::forecast(
         memory,
@@ -52,7 +52,7 @@ fn write(
     replaced: u32,
 )
     requires { VersionReady present (box_at memory disk) block time lock content.now replaced }
-    ensures { box_at memory.exit disk.exit ≡ (carried_out present (box_at memory.entry disk.entry)
+    ensures { box_at memory.new disk.new ≡ (carried_out present (box_at memory.old disk.old)
         (writing block time lock content.now ∷ unfreezes (block_named replaced) time)).box }
 {
     versions_orders::give(memory, disk, Update::Write(lock), block, time, content);
@@ -80,7 +80,7 @@ pub fn store(
 )
     requires { StoreReady present (whole_box present (groups present memory.old)) state.old (box_at memory disk) part block time content.now }
     ensures { Leaves present (M.put present (whole_box present (groups present memory.old)) (versions_in state.old)
-        (box_at memory.entry disk.entry) part time content.now) state.new (box_at memory.exit disk.exit) }
+        (box_at memory.old disk.old) part time content.now) state.new (box_at memory.new disk.new) }
 {
     let lock = versions_state::lock(state);
     let replaced = versions_state::newest(state, part);
