@@ -17,12 +17,12 @@ returns c =
     let start = salted.before.before.before.before.before in
     let ready = start.requires.0 in
     let out = start.args.out.now in
-    message_built σ _ _ out _ _ _ _ _ _ ready.count.size ready.page_size_is start.requires.1
-    (lent_filled out _ _ 0 _ (salt_length σ _ ready.count.size) salted.copy-salt.ensures)
-    grouped.store-u64.ensures counted.count.ensures numbered.store-u32.ensures copied.copy.ensures
+    message_built σ _ _ out _ _ _ _ _ _ ready.count-count.size ready.page_size_is start.requires.1
+    (lent_filled out _ _ 0 _ (salt_length σ _ ready.count-count.size) salted.copy_salt.ensures)
+    grouped.store_u64.ensures counted.count-count.ensures numbered.store_u32.ensures copied.copy.ensures
 
-pub store-message-spec : {M : Type 1} → statement M
-store-message-spec =
+pub store_message_spec : {M : Type 1} → statement M
+store_message_spec =
     tie.close
     (tie.spec (λ c. search rules) (λ c. search rules) (λ c. search rules) (λ c κs. search rules) (λ c κs. search rules)
     (λ c κs. search rules) (λ c. search rules) (λ c κs. search rules) (λ c. search rules) (λ c. search rules) (λ c κs. search rules)

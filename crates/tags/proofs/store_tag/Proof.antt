@@ -14,8 +14,8 @@ returns c =
     let start = made.before.before.before.before.before.before in
     tag_stored σ _ _ _ _ _ start.requires.1 made.tag.ensures copied.copy.ensures
 
-pub store-tag-spec : {M : Type 1} → statement M
-store-tag-spec =
+pub store_tag_spec : {M : Type 1} → statement M
+store_tag_spec =
     tie.close
     (tie.spec (λ c. search rules) (λ c. search rules) (λ c. search rules) (λ c. search rules) (λ c κs. search rules) (λ c. search rules)
     (λ c κs. search rules) (λ c. search rules) returns)
