@@ -62,14 +62,18 @@ def declaration(text, functions):
     return text[: head.end()] + body
 
 
+def body_flattened(body):
+    functions = {it[1] for it in PLACE_FUNCTION.finditer(body)}
+    parts = re.split(r"(\n\n(?=(?:--|\S)))", body)
+    return "".join(it if it.isspace() else declaration(it, functions) for it in parts)
+
+
 def main():
     for path in sys.argv[1:]:
         with open(path, encoding="utf-8") as it:
             text = it.read()
         head, body = re.match(r"((?:--[^\n]*\n|use [^\n]*\n|\s*\n)*)(.*)", text, re.S).groups()
-        functions = {it[1] for it in PLACE_FUNCTION.finditer(body)}
-        parts = re.split(r"(\n\n(?=(?:--|\S)))", body)
-        now = head + "".join(it if it.isspace() else declaration(it, functions) for it in parts)
+        now = head + body_flattened(body)
         if now != text:
             with open(path, "w", encoding="utf-8") as it:
                 it.write(now)

@@ -22,4 +22,4 @@ same c =
 pub next_update_spec : {M : Type 1} → statement M
 next_update_spec =
     tie.close
-    (tie.spec (λ c κs. (facts σ _ c.before.requires).size) new (λ c κs. (facts σ _ c.before.before.before.requires).size) add-result same)
+    (tie.spec (λ c κs. (facts σ _ c.requires).size) new (λ c κs. (facts σ _ c.requires).size) add-result same)
