@@ -1,5 +1,6 @@
 // Numbers as text, in decimal. The contracts cite specs/.
 #![tactic(auto)]
+
 ghost use Rattle.std.specs.Prelude.{◌≡◌, ◌+◌, ◌≤◌, length};
 ghost use Rattle.octets.specs.Part.{replaced};
 ghost use Rattle.decimal.specs.Decimal.{decimal, signed_decimal};
