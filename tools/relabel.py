@@ -198,7 +198,7 @@ def relabelled(text, of, name):
     body = re.sub(r"\beq-(?:true|false)_of_not-eq-(?:true|false)' (?=[\w.-]+\.(?:true|false)\b)", "", body)
     body = re.sub(r"(?<=[\w)])\.pre\b", ".requires", body)
     body = re.sub(r"(?<=[\w)])\.inv\b", ".invariant", body)
-    body = recounted(flatten.body_flattened(steps_back(body, of)), of)
+    body = flatten.without_unused(recounted(flatten.body_flattened(steps_back(body, of)), of))
     dashed = plain(name) + "-spec"
     body = re.sub(r"(?<![\w.-])%s(?![\w-])" % re.escape(dashed), name + "_spec", body)
     return head + body

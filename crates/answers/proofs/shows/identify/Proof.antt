@@ -10,22 +10,10 @@ use Rattle.answers.proofs.shows.identify.Statement.{statement}
 use Rattle.answers.proofs.shows.identify.Tie as tie
 
 -- the states on the way back: the first number stored, the groups read, the last time set, the start
-abbrev first : tie.After-data_blocks → tie.After-store_u32
-first c = c.before.before.before.before
-
-abbrev grouped : tie.After-store_u32 → tie.After-groups-groups
-grouped c = c.before.before
-
-abbrev timed : tie.After-groups-groups → tie.After-set_last_time
-timed c = c.before.before.before
-
-abbrev start : tie.After-set_last_time → tie.Start
-start c = c.before.before.before.before
-
 cast-store-u32 : tie.Need-overflow_cast-data_blocks
 unfolding Below
 cast-store-u32 c =
-    let bytes = c.set_last_time.last.0 in
+    let bytes = c.set_last_time.new.memory in
     let small = groups_small σ bytes (λ i. omega (arith, c.slice_known-3-1.given i)) in
     omega (arith, c.data_blocks.ensures, data_blocks_small σ c.groups-groups.result (omega (arith, c.groups-groups.ensures, small)))
 

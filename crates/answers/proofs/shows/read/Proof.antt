@@ -9,9 +9,6 @@ use Rattle.answers.proofs.shows.read.Statement.{statement}
 use Rattle.answers.proofs.shows.read.Tie as tie
 
 -- where it starts, before the last time is set
-abbrev start : tie.After-set_last_time-arg-1 → tie.Start
-start c = c.before.before.before.before
-
 read-block-requires : tie.Need-read_block-requires
 read-block-requires c κs =
     let ready = c.requires in

@@ -9,9 +9,6 @@ use Rattle.answers.proofs.shows.show_entry.Statement.{statement}
 use Rattle.answers.proofs.shows.show_entry.Tie as tie
 
 -- where it starts, before the last time is set
-abbrev start : tie.After-set_last_time-arg-1 → tie.Start
-start c = c.before.before.before.before
-
 entry-requires : tie.Need-entry-e-requires
 entry-requires c κs =
     let ready = c.requires in

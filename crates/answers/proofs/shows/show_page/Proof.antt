@@ -10,15 +10,6 @@ use Rattle.answers.proofs.shows.show_page.Statement.{statement}
 use Rattle.answers.proofs.shows.show_page.Tie as tie
 
 -- the states on the way back: the page copied, the memory with its last time set, the start
-abbrev copied : tie.After-store-tag-arg2 → tie.After-fetch
-copied c = c.before.before.before.before
-
-abbrev kept : tie.After-fetch → tie.After-memory-1
-kept c = c.before.before.before
-
-abbrev start : tie.After-set_last_time-arg-1 → tie.Start
-start c = c.before.before.before.before
-
 fetch-requires : tie.Need-fetch-requires
 fetch-requires c κs =
     let ready = c.requires in
@@ -36,12 +27,9 @@ store-tag-requires c κs =
 
 returns : tie.Need-returns
 returns c =
-    let tagged = c.before.before in
-    let page = copied tagged.before in
-    let timed = (kept page).before in
-    let ready = (start timed.before).requires in
-    page_outcome σ _ _ _ _ timed.set_last_time.ensures (start timed.before).args.answer.now _ _ _ (facts σ _ ready.box.memory).size
-    (omega (arith, (start timed.before).ranges.time)) ready.box.disk ready.group c.fetch.ensures.1 c.store_tag.ensures
+    let ready = c.requires in
+    page_outcome σ _ _ _ _ c.set_last_time.ensures c.args.answer.now _ _ _ (facts σ _ ready.box.memory).size
+    (omega (arith, c.ranges.time)) ready.box.disk ready.group c.fetch.ensures.1 c.store_tag.ensures
 
 pub show_page_spec : {M : Type 1} → statement M
 show_page_spec =
