@@ -73,7 +73,7 @@ def without_unused(body):
     while True:
         for found in PLACE_FUNCTION.finditer(body):
             if len(re.findall(NAME % re.escape(found[1]) + r"(?![\w'-])", body)) == 2:
-                start = re.search(r"(?:(?<=\n)--[^\n]*\n)*\Z", body[: found.start()]).start()
+                start = re.search(r"(?m:^--[^\n]*\n)*\Z", body[: found.start()]).start()
                 body = (body[:start].rstrip("\n") + "\n\n" if body[:start].strip() else "") + body[found.end() :].lstrip("\n")
                 break
         else:

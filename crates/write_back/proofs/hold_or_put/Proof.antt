@@ -1,8 +1,6 @@
 -- `write_back::hold_or_put` meets its contract: the count stored, the page held or stored as its group's. Assumes nothing.
 use borrow.Author.Rules.{rules}
-use mathlib.Core.Path.{◌≡◌, ◌∙◌}
 use native.Mathlib.Omega.{arith}
-use Prim.Native.Nat.{◌<◌}
 use Rattle.lockpage.specs.Geometry.{present}
 use Rattle.lockpage.proofs.GeometryLaw.{present_proper as σ}
 use Rattle.disk.proofs.DiskLaw.{has_group}

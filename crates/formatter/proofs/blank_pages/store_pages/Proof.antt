@@ -27,9 +27,9 @@ start c = c.before.before.before
 
 store-page-requires : tie.Need-store_page-requires invariant-loop decreases-loop
 store-page-requires c κs = (
-      has_group σ c.loop-g.disk c.args.groups c.loop-g.g c.loop-g.invariant.1.0 (omega (arith, c.loop-g-test.true)),
-      ap length c.requires.blank ∙ blank_page_length σ,
-    )
+  has_group σ c.loop-g.disk c.args.groups c.loop-g.g c.loop-g.invariant.1.0 (omega (arith, c.loop-g-test.true)),
+  ap length c.requires.blank ∙ blank_page_length σ,
+)
 
 loop-again : tie.Need-loop-g-preserved invariant-loop decreases-loop
 loop-again c =
