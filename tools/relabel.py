@@ -22,6 +22,7 @@ def spellings(word):
     yield plain(word)
     yield plain(re.sub(r"_(is|lem)\Z", "", word))
     yield plain(re.sub(r"_?Is([A-Z])", lambda it: "-" + it[1].lower(), word))
+    yield plain(word).lower()
 
 
 def looked_up(word, table):
@@ -92,8 +93,23 @@ def relabelled(text, of, name):
     head, body = re.match(r"((?:--[^\n]*\n|use [^\n]*\n|\s*\n)*)(.*)", text, re.S).groups()
     body = TIE.sub(tie, body)
     of_source = re.compile(r"(?:\btie|\.(?:args|ranges|requires|ensures|new|auto|type_inv|loop-[^\s.]*))\Z")
-    body = FIELD.sub(lambda it: it[0] if of_source.search(body, max(0, it.start() - 40), it.start()) else field(it), body)
+
+    def in_place(found):
+        """A label, unless it is a name of the source: below args and the like, or that of a known fact, which is read by .given."""
+        if of_source.search(body, max(0, found.start() - 40), found.start()):
+            return found[0]
+        now = field(found)
+        is_known = re.fullmatch(r"%s(-\S+)?-\d+" % re.escape(found[0]), now)
+        return found[0] if is_known and not body.startswith(".given", found.end()) else now
+
+    body = FIELD.sub(in_place, body)
     body = by_position(body, [new for _, new in of["needs"]], len(of["loops"]))
+    # Today a test of `!x` says what it says of x.
+    body = re.sub(r"(\.(?:if|loop)[^\s.]*)\.taken\b", r"\1.true", body)
+    body = re.sub(r"(\.(?:if|loop)[^\s.]*)\.left\b", r"\1.false", body)
+    body = re.sub(r"\beq-(?:true|false)_of_not-eq-(?:true|false)' (?=[\w.-]+\.(?:true|false)\b)", "", body)
+    body = re.sub(r"(?<=[\w)])\.pre\b", ".requires", body)
+    body = re.sub(r"(?<=[\w)])\.inv\b", ".invariant", body)
     dashed = plain(name) + "-spec"
     body = re.sub(r"(?<![\w.-])%s(?![\w-])" % re.escape(dashed), name + "_spec", body)
     return head + body

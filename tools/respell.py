@@ -149,11 +149,11 @@ def main():
     ]
     for paths, turn in texts:
         for path in paths:
-            text = read(path)
-            now = turn(text)
+            text = now = read(path)
             for crate, names in IN_A_CRATE.items():
                 if path.startswith(f"crates/{crate}/") and path.endswith(".antt"):
                     now = WORD.sub(lambda it: names.get(it[0], it[0]), now)
+            now = turn(now)
             if now != text:
                 with open(path, "w", encoding="utf-8", newline="") as it:
                     it.write(now)

@@ -1,6 +1,7 @@
 // The address map: where data blocks, lock pages and groups lie on the disk. Its constants are made here, from lockpage's. The
 // contracts cite specs/.
 #![tactic(auto)]
+
 ghost use Rattle.std.specs.Prelude.{◌≡◌, ◌<◌};
 ghost use Rattle.lockpage.specs.Geometry.{present};
 ghost use Rattle.addressing.specs.Map.{group_blocks, disk_size, data_blocks, group_of, place_of, group_start, block_start};

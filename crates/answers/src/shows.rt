@@ -17,9 +17,9 @@ const IDENTIFY_SIZE: usize = 4;
 
 // Kind 1: a block. It goes by a buffer: the compiler does not know that disk and answer are apart, and makes one move of the two copies.
 pub fn read(memory: &mut [u8], disk: &[u8], block: u32, time: u32, answer: &mut [u8])
-    requires { BlockReady present (box_at memory disk) block answer.old }
-    ensures { outcome_at 0 memory.exit disk.entry answer.exit
-        ≡ accepted present (λ s. E.read present s block) (box_at memory.entry disk.entry) time }
+    requires { BlockReady present (box_at memory.old disk.now) block answer.old }
+    ensures { outcome_at 0 memory.new disk.now answer.new
+        ≡ accepted present (λ s. E.read present s block) (box_at memory.old disk.now) time }
 {
     memory::set_last_time(memory, time);
     let mut content = [0u8; addressing::BLOCK_SIZE];
@@ -43,9 +43,9 @@ fn answer_entry(answer: &mut [u8], e: Entry, time: u32)
 
 // Kind 2: a block's entry.
 pub fn show_entry(memory: &mut [u8], disk: &[u8], block: u32, time: u32, answer: &mut [u8])
-    requires { BlockReady present (box_at memory disk) block answer.old }
-    ensures { outcome_at 0 memory.exit disk.entry answer.exit
-        ≡ accepted present (λ s. show_entry present s block time) (box_at memory.entry disk.entry) time }
+    requires { BlockReady present (box_at memory.old disk.now) block answer.old }
+    ensures { outcome_at 0 memory.new disk.now answer.new
+        ≡ accepted present (λ s. show_entry present s block time) (box_at memory.old disk.now) time }
 {
     memory::set_last_time(memory, time);
     let e = current_page::entry(memory, disk, block);
@@ -54,9 +54,9 @@ pub fn show_entry(memory: &mut [u8], disk: &[u8], block: u32, time: u32, answer:
 
 // Kind 3: the current page of a group and its tag.
 pub fn show_page(memory: &mut [u8], disk: &[u8], group: u32, time: u32, answer: &mut [u8])
-    requires { GroupReady present (box_at memory disk) group answer.old }
-    ensures { outcome_at 0 memory.exit disk.entry answer.exit
-        ≡ accepted present (λ s. show_page present s group) (box_at memory.entry disk.entry) time }
+    requires { GroupReady present (box_at memory.old disk.now) group answer.old }
+    ensures { outcome_at 0 memory.new disk.now answer.new
+        ≡ accepted present (λ s. show_page present s group) (box_at memory.old disk.now) time }
 {
     memory::set_last_time(memory, time);
     current_page::fetch(memory, disk, group, &mut answer[0..PAGE_SIZE]);

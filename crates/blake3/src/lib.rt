@@ -1,5 +1,6 @@
 // BLAKE3, the plain hash of 32 bytes. The contracts cite specs/Blake3.antt.
 #![tactic(auto)]
+
 mod chunk;
 mod tree;
 

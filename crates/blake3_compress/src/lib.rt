@@ -1,5 +1,6 @@
 // BLAKE3's compression function: seven rounds, and the message words permuted between them. The contracts cite specs/Compress.antt.
 #![tactic(auto)]
+
 ghost use Rattle.std.specs.Prelude.{◌≡◌};
 ghost use Rattle.blake3_compress.specs.Compress as C;
 

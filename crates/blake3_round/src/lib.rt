@@ -1,6 +1,7 @@
 // A round of BLAKE3's compression, as two half-rounds. The state is four rows of four words, by value; the four columns of a
 // half-round are mixed side by side, a row at a time. The contracts cite specs/Round.antt.
 #![tactic(auto)]
+
 ghost use Rattle.std.specs.Prelude.{◌≡◌, ◌<◌};
 ghost use Rattle.blake3_round.specs.Round as R;
 

@@ -66,7 +66,7 @@ fn all_below(blocks: &[u8], limit: u32) -> bool
 // The number of the first question that says no to a query, or 0. They are, in order, 1, 2, 4, 12, 5 and 6. The first three are asked here and
 // not by arguments::box_questions, so that they are compiled in their place.
 pub fn refusal(memory: &[u8], disk: &[u8], blocks: &[u8], time: u32, answer: &[u8]) -> u32
-    ensures { result ≡ query_refusal present (box_at memory.entry disk.entry) (query_at blocks.entry time answer.entry) }
+    ensures { result ≡ query_refusal present (box_at memory.now disk.now) (query_at blocks.now time answer.now) }
 {
     if !validity::valid(memory) {
         return machine::MEMORY_INVALID;

@@ -2,6 +2,7 @@
 // The contract of `states`, which has no precondition, fixes its two numbers and every byte of memory and answer by the definitions
 // of machine.
 #![tactic(auto)]
+
 mod fill;
 mod links;
 
@@ -25,8 +26,8 @@ pub fn states(
     time: u32,
     answer: &mut [u8],
 ) -> Answered
-    ensures { query_outcome_at result.number result.pages memory.exit disk.entry answer.exit
-        ≡ query_step present (box_at memory.entry disk.entry) (query_at blocks.entry time answer.entry) }
+    ensures { query_outcome_at result.number result.pages memory.new disk.now answer.new
+        ≡ query_step present (box_at memory.old disk.now) (query_at blocks.now time answer.old) }
 {
     let number = block_list::refusal(memory, disk, blocks, time, answer);
     if number != machine::ACCEPTED {

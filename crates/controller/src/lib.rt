@@ -2,6 +2,7 @@
 // fixes the number answered and every byte of memory, disk and answer by the definitions of machine. The functions below it get the
 // kind in the place of a number and a value; their contracts cite specs/.
 #![tactic(auto)]
+
 ghost use Rattle.std.specs.Prelude.{◌≡◌};
 ghost use Rattle.lockpage.specs.Geometry.{present};
 ghost use Rattle.machine.specs.Question.{first_no};
@@ -26,9 +27,9 @@ pub fn update(
     proof: &[u8],
     answer: &mut [u8],
 ) -> u32
-    requires { first_no (first_questions present (Kind.Change u) (box_at memory disk) (command_at 0 block time 0 content proof answer)) ≡ 0 }
-    ensures { ComesTo present (Kind.Change u) (box_at memory.entry disk.entry)
-        (command_at 0 block time 0 content.entry proof.entry answer.entry) (outcome_at result memory.exit disk.exit answer.exit) }
+    requires { first_no (first_questions present (Kind.Change u) (box_at memory.old disk.old) (command_at 0 block time 0 content.now proof.now answer.old)) ≡ 0 }
+    ensures { ComesTo present (Kind.Change u) (box_at memory.old disk.old)
+        (command_at 0 block time 0 content.now proof.now answer.old) (outcome_at result memory.new disk.new answer.new) }
 {
     let refusal = questions::change::refusal(memory, u, block, time, proof);
     if refusal != machine::ACCEPTED {
@@ -48,9 +49,9 @@ fn new_salt(
     proof: &[u8],
     answer: &mut [u8],
 ) -> u32
-    requires { first_no (first_questions present Kind.NewSalt (box_at memory disk) (command_at 0 block time 0 content proof answer)) ≡ 0 }
-    ensures { ComesTo present Kind.NewSalt (box_at memory.entry disk.entry)
-        (command_at 0 block time 0 content.entry proof.entry answer.entry) (outcome_at result memory.exit disk.exit answer.exit) }
+    requires { first_no (first_questions present Kind.NewSalt (box_at memory.old disk.old) (command_at 0 block time 0 content.now proof.now answer.old)) ≡ 0 }
+    ensures { ComesTo present Kind.NewSalt (box_at memory.old disk.old)
+        (command_at 0 block time 0 content.now proof.now answer.old) (outcome_at result memory.new disk.new answer.new) }
 {
     let unchanged = questions::salt_refusal(memory, content);
     if unchanged != machine::ACCEPTED {
@@ -71,9 +72,9 @@ fn carry_out(
     proof: &[u8],
     answer: &mut [u8],
 ) -> u32
-    requires { first_no (first_questions present k (box_at memory disk) (command_at 0 block time 0 content proof answer)) ≡ 0 }
-    ensures { ComesTo present k (box_at memory.entry disk.entry)
-        (command_at 0 block time 0 content.entry proof.entry answer.entry) (outcome_at result memory.exit disk.exit answer.exit) }
+    requires { first_no (first_questions present k (box_at memory.old disk.old) (command_at 0 block time 0 content.now proof.now answer.old)) ≡ 0 }
+    ensures { ComesTo present k (box_at memory.old disk.old)
+        (command_at 0 block time 0 content.now proof.now answer.old) (outcome_at result memory.new disk.new answer.new) }
 {
     match k {
         Kind::Read => shows::read(memory, disk, block, time, answer),
@@ -105,9 +106,9 @@ pub fn command(
     proof: &[u8],
     answer: &mut [u8],
 ) -> u32
-    ensures { outcome_at result memory.exit disk.exit answer.exit
-        ≡ step present (box_at memory.entry disk.entry)
-        (command_at kind block time value content.entry proof.entry answer.entry) }
+    ensures { outcome_at result memory.new disk.new answer.new
+        ≡ step present (box_at memory.old disk.old)
+        (command_at kind block time value content.now proof.now answer.old) }
 {
     let number = questions::refusal(
         memory, disk, kind, value, block, time, content, proof, answer,

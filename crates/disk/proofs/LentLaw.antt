@@ -9,7 +9,7 @@ use lib.Seq.{length-take-le}
 use Rattle.octets.specs.Part.{part, replaced}
 use Rattle.octets.proofs.ReplacedLaw.{replaced_all, replaced_lent, part_copied, all_copied}
 use Rattle.lockpage.specs.Geometry.{Geometry, Proper}
-use Rattle.lockpage.specs.Size.{block_size_is}
+use Rattle.lockpage.specs.Size.{block_size}
 use Rattle.lockpage.specs.declared.Entry.{Entry}
 use Rattle.lockpage.specs.Page.{entry_at}
 use Rattle.addressing.specs.Map.{group_blocks, group_size, group_start, block_start}
@@ -28,33 +28,33 @@ entry_cut p q i r e h = h ∙ ap (λ (x : List ℕ). entry_at x i) e
 -- γ is any proper geometry
 module _ {γ : Geometry} (σ : Proper γ) where
   -- a block copied into a buffer of its size
-  pub block_copied : (l buffer r : List ℕ) (p from : ℕ) → length buffer ≡ block_size_is γ → block_start γ p + block_size_is γ ≤ length l
-      → from ≡ block_start γ p → r ≡ replaced buffer 0 (part l from (block_size_is γ)) → r ≡ block γ l p
+  pub block_copied : (l buffer r : List ℕ) (p from : ℕ) → length buffer ≡ block_size γ → block_start γ p + block_size γ ≤ length l
+      → from ≡ block_start γ p → r ≡ replaced buffer 0 (part l from (block_size γ)) → r ≡ block γ l p
   unfolding block
   block_copied l buffer r p from s h ef er =
-      part_copied l buffer r (block_start γ p) (block_size_is γ) s h (er ∙ ap (λ (at : ℕ). replaced buffer 0 (part l at (block_size_is γ))) ef)
+      part_copied l buffer r (block_start γ p) (block_size γ) s h (er ∙ ap (λ (at : ℕ). replaced buffer 0 (part l at (block_size γ))) ef)
 
   -- a block's part, cut out
-  pub block_cut : (l : List ℕ) (p from : ℕ) → from ≡ block_start γ p → take (from + block_size_is γ - from) (drop from l) ≡ block γ l p
+  pub block_cut : (l : List ℕ) (p from : ℕ) → from ≡ block_start γ p → take (from + block_size γ - from) (drop from l) ≡ block γ l p
   unfolding block part
-  block_cut l p from ef = ap₂ (λ (k at : ℕ). take k (drop at l)) (span from (block_size_is γ)) ef
+  block_cut l p from ef = ap₂ (λ (k at : ℕ). take k (drop at l)) (span from (block_size γ)) ef
 
   -- a block whose part was lent and came back as r
-  pub block_lent : (l r : List ℕ) (p from : ℕ) → length r ≡ block_size_is γ → from ≡ block_start γ p
-      → take from l ++ (r ++ drop (from + block_size_is γ - from) (drop from l)) ≡ with_block γ l p r
+  pub block_lent : (l r : List ℕ) (p from : ℕ) → length r ≡ block_size γ → from ≡ block_start γ p
+      → take from l ++ (r ++ drop (from + block_size γ - from) (drop from l)) ≡ with_block γ l p r
   unfolding with_block
   block_lent l r p from s ef =
-      replaced_lent l from (from + block_size_is γ - from) r (s ∙ sym (span from (block_size_is γ))) ∙ ap (λ (at : ℕ). replaced l at r) ef
+      replaced_lent l from (from + block_size γ - from) r (s ∙ sym (span from (block_size γ))) ∙ ap (λ (at : ℕ). replaced l at r) ef
 
   -- and as all of new, copied into it
-  pub block_filled : (l new r : List ℕ) (p from : ℕ) → length new ≡ block_size_is γ → from + block_size_is γ ≤ length l → from ≡ block_start γ p
-      → r ≡ replaced (take (from + block_size_is γ - from) (drop from l)) 0 (part new 0 (block_size_is γ))
-      → take from l ++ (r ++ drop (from + block_size_is γ - from) (drop from l)) ≡ with_block γ l p new
+  pub block_filled : (l new r : List ℕ) (p from : ℕ) → length new ≡ block_size γ → from + block_size γ ≤ length l → from ≡ block_start γ p
+      → r ≡ replaced (take (from + block_size γ - from) (drop from l)) 0 (part new 0 (block_size γ))
+      → take from l ++ (r ++ drop (from + block_size γ - from) (drop from l)) ≡ with_block γ l p new
   block_filled l new r p from s h ef er =
-      let lent : List ℕ = take (from + block_size_is γ - from) (drop from l) in
-      let lent-size : length lent ≡ block_size_is γ =
-      length-take-le (from + block_size_is γ - from) (drop from l) (omega (arith, length-drop from l)) ∙ span from (block_size_is γ) in
-      let filled : r ≡ new = all_copied lent new r 0 (block_size_is γ) s er ∙ replaced_all lent new (s ∙ sym lent-size) in
+      let lent : List ℕ = take (from + block_size γ - from) (drop from l) in
+      let lent-size : length lent ≡ block_size γ =
+      length-take-le (from + block_size γ - from) (drop from l) (omega (arith, length-drop from l)) ∙ span from (block_size γ) in
+      let filled : r ≡ new = all_copied lent new r 0 (block_size γ) s er ∙ replaced_all lent new (s ∙ sym lent-size) in
       block_lent l r p from (ap length filled ∙ s) ef ∙ ap (with_block γ l p) filled
 
   -- an extent's end, an extent cut out, and one lent and come back
@@ -90,12 +90,12 @@ module _ {γ : Geometry} (σ : Proper γ) where
 
   -- block p of the disk, stored by its place in an extent that was lent
   pub block_stored : (disk new r : List ℕ) (g from place p : ℕ) → HasGroup γ disk g → place < group_blocks γ → from ≡ group_start γ g
-      → p ≡ group_blocks γ * g + place → length new ≡ block_size_is γ → r ≡ with_block γ (take (from + group_size γ - from) (drop from disk)) place new
+      → p ≡ group_blocks γ * g + place → length new ≡ block_size γ → r ≡ with_block γ (take (from + group_size γ - from) (drop from disk)) place new
       → take from disk ++ (r ++ drop (from + group_size γ - from) (drop from disk)) ≡ with_block γ disk p new
   block_stored disk new r g from place p has h ef ep s er =
       let within : r ≡ with_block γ (extent γ disk g) place new =
       er ∙ ap (λ (t : List ℕ). with_block γ t place new) (extent_cut disk g from ef) in
-      let inside : block_start γ place + block_size_is γ ≤ length (extent γ disk g) = omega (arith, extent_length σ disk g has, block_start_place σ place h) in
+      let inside : block_start γ place + block_size γ ≤ length (extent γ disk g) = omega (arith, extent_length σ disk g has, block_start_place σ place h) in
       let size : length r ≡ group_size γ =
       ap length within ∙ with_block_length σ (extent γ disk g) place new s inside ∙ extent_length σ disk g has in
       extent_lent disk r g from ef size

@@ -2,14 +2,14 @@
 use Rattle.std.specs.Prelude.{ℕ, ◌+◌, ◌≤◌, List, length}
 use Rattle.octets.specs.Part.{part, replaced}
 use Rattle.lockpage.specs.Geometry.{Geometry}
-use Rattle.lockpage.specs.Size.{block_size_is}
+use Rattle.lockpage.specs.Size.{block_size}
 use Rattle.addressing.specs.Map.{group_size, group_start, block_start}
 
 -- γ is the box's geometry
 module _ (γ : Geometry) where
   -- block p of a disk, or of a group; and it replaced
   unfoldable pub block : List ℕ → ℕ → List ℕ
-  block l p = part l (block_start γ p) (block_size_is γ)
+  block l p = part l (block_start γ p) (block_size γ)
 
   unfoldable pub with_block : List ℕ → ℕ → List ℕ → List ℕ
   with_block l p new = replaced l (block_start γ p) new

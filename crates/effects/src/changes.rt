@@ -49,10 +49,10 @@ pub fn change(
     proof: &[u8],
     answer: &mut [u8],
 )
-    requires { ChangeReady present u (box_at memory disk) (command_at 0 block time 0 content proof answer) }
-    ensures { outcome_at 0 memory.exit disk.exit answer.exit
-        ≡ accepted present (λ s. E.change present u s (command_at 0 block time 0 content.entry proof.entry answer.entry))
-        (box_at memory.entry disk.entry) time }
+    requires { ChangeReady present u (box_at memory.old disk.old) (command_at 0 block time 0 content.now proof.now answer.old) }
+    ensures { outcome_at 0 memory.new disk.new answer.new
+        ≡ accepted present (λ s. E.change present u s (command_at 0 block time 0 content.now proof.now answer.old))
+        (box_at memory.old disk.old) time }
 {
     let group = addressing::group_of(block);
     memory::set_last_time(memory, time);

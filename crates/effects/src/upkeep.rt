@@ -13,9 +13,9 @@ use answers::tail;
 
 // Kind 7.
 pub fn sync(memory: &mut [u8], disk: &mut [u8], time: u32, answer: &mut [u8])
-    requires { UpkeepReady present (box_at memory disk) time answer.old }
-    ensures { outcome_at 0 memory.exit disk.exit answer.exit
-        ≡ accepted present (E.sync present) (box_at memory.entry disk.entry) time }
+    requires { UpkeepReady present (box_at memory.old disk.old) time answer.old }
+    ensures { outcome_at 0 memory.new disk.new answer.new
+        ≡ accepted present (E.sync present) (box_at memory.old disk.old) time }
 {
     memory::set_last_time(memory, time);
     write_back::put_held(memory, disk);
@@ -35,9 +35,9 @@ pub fn restart(memory: &mut [u8], time: u32, answer: &mut [u8])
 
 // Kind 9: a sync first.
 pub fn new_salt(memory: &mut [u8], disk: &mut [u8], time: u32, content: &[u8], answer: &mut [u8])
-    requires { UpkeepReady present (box_at memory disk) time answer.old × (length content.now ≡ salt_size) }
-    ensures { outcome_at 0 memory.exit disk.exit answer.exit
-        ≡ accepted present (λ s. new_salt present s content.now) (box_at memory.entry disk.entry) time }
+    requires { UpkeepReady present (box_at memory.old disk.old) time answer.old × (length content.now ≡ salt_size) }
+    ensures { outcome_at 0 memory.new disk.new answer.new
+        ≡ accepted present (λ s. new_salt present s content.now) (box_at memory.old disk.old) time }
 {
     sync(memory, disk, time, answer);
     memory::clear_counts(memory);

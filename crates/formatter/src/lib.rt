@@ -14,7 +14,7 @@ use memory::layout;
 
 // The number of the first question that says no, or 0: the groups and the memory's size, the disk, the salt.
 fn refusal(memory: &[u8], disk: &[u8], groups: u32, salt: &[u8]) -> u32
-    ensures { result ≡ first_no (format_questions present (box_at memory.entry disk.entry) groups salt.now) }
+    ensures { result ≡ first_no (format_questions present (box_at memory.now disk.now) groups salt.now) }
 {
     if groups < 1 {
         return machine::MEMORY_INVALID;
@@ -36,8 +36,8 @@ fn refusal(memory: &[u8], disk: &[u8], groups: u32, salt: &[u8]) -> u32
 
 // Formats a box: its number; where that is not 0, no byte is changed.
 pub fn format(memory: &mut [u8], disk: &mut [u8], groups: u32, salt: &[u8]) -> u32
-    ensures { format_outcome_at result memory.exit disk.exit
-        ≡ F.format present (box_at memory.entry disk.entry) groups salt.now }
+    ensures { format_outcome_at result memory.new disk.new
+        ≡ F.format present (box_at memory.old disk.old) groups salt.now }
 {
     let number = refusal(memory, disk, groups, salt);
     if number != machine::ACCEPTED {

@@ -1,5 +1,6 @@
 // The held page in the controller memory. The contracts cite the definitions of memory.
 #![tactic(auto)]
+
 ghost use Rattle.std.specs.Prelude.{◌≡◌, ◌≤◌, ◌<◌, length};
 ghost use Rattle.octets.specs.Part.{repeated, equal};
 ghost use Rattle.lockpage.specs.Geometry.{present};

@@ -1,5 +1,6 @@
 // The controller as definitions, specs/, and theorems about them, proofs/. No function: what runs is above this crate.
 #![tactic(auto)]
+
 use lockpage::Update;
 
 // The numbers answered: the command is accepted, or the question that says no.

@@ -1,6 +1,7 @@
 // The controller memory: 808 bytes that the caller lends. Its fields but the held page, and the memory of formatting. The
 // contracts cite specs/.
 #![tactic(auto)]
+
 ghost use Rattle.std.specs.Prelude.{◌≡◌, length};
 ghost use Rattle.octets.specs.Part.{equal};
 ghost use Rattle.lockpage.specs.Geometry.{present};

@@ -34,7 +34,7 @@ fn lay_out(old: &[u8], new: &mut [u8])
 // Migrates an old memory into the buffer; where the number is not 0, no byte is changed. The old memory is judged by the new one, which is
 // valid if and only if the old one is, but for its groups.
 pub fn migrate(old: &[u8], memory: &mut [u8]) -> u32
-    ensures { migration_at result memory.exit ≡ migration base present.most_groups old.now memory.old }
+    ensures { migration_at result memory.new ≡ migration base present.most_groups old.now memory.old }
 {
     if old.len() != OLD_MEMORY_SIZE {
         return machine::MEMORY_INVALID;

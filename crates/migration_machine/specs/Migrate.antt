@@ -19,7 +19,7 @@ migration_of number memory = record { number = number; memory = memory }
 
 -- what the buffer's reference shows, at exit
 abbrev pub migration_at : ℕ → ByteSlice → Migration
-migration_at number memory = migration_of number memory.now
+migration_at number memory = migration_of number memory
 
 -- the new box has no fewer groups than the old one, and is proper: what the theorems ask
 pub record Wider (γ : Geometry) (n : ℕ) : Type 0 where

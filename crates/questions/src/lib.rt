@@ -36,8 +36,8 @@ pub fn refusal(
     proof: &[u8],
     answer: &[u8],
 ) -> u32
-    ensures { result ≡ first_no (first_questions present (kind_numbered kind value) (box_at memory.entry disk.entry)
-        (command_at 0 block time 0 content.entry proof.entry answer.entry)) }
+    ensures { result ≡ first_no (first_questions present (kind_numbered kind value) (box_at memory.now disk.now)
+        (command_at 0 block time 0 content.now proof.now answer.now)) }
 {
     if !validity::valid(memory) {
         return machine::MEMORY_INVALID;

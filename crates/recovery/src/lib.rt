@@ -1,6 +1,7 @@
 // Recovery: the log is walked once, from the first block on, and each part's last record that counts is in the result. The contract of
 // `recover`, which has no precondition, fixes its number and every byte of the result by the definitions of recovery_machine.
 #![tactic(auto)]
+
 ghost use Rattle.std.specs.Prelude.{◌≡◌, List, ℕ};
 ghost use Rattle.lockpage.specs.Geometry.{present};
 ghost use Rattle.memory.specs.Memory.{groups};
@@ -25,7 +26,7 @@ pub const RESULT_SIZE: usize = layout::NEWESTS_SIZE;
 
 // Questions 1, 2, 4 and 6: the number of the first that says no, or 0.
 fn refusal(memory: &[u8], disk: &[u8], time: u32, res: &[u8]) -> u32
-    ensures { result ≡ first_no (recover_questions present (box_at memory.entry disk.entry) time res.now) }
+    ensures { result ≡ first_no (recover_questions present (box_at memory.now disk.now) time res.now) }
 {
     let number = arguments::box_questions::refusal(memory, disk, time);
     if number != machine::ACCEPTED {
@@ -47,9 +48,9 @@ fn goes_on(
     marks: &[u8],
     block: u32,
 ) -> bool
-    requires { StepReady present (box_at memory disk) marks.now block }
+    requires { StepReady present (box_at memory.now disk.now) marks.now block }
     ensures { (walked : List ℕ) → Marks marks.now walked
-        → result ≡ goes_on present (whole_box present (groups present memory.now)) (box_at memory.entry disk.entry) point time walked parent block }
+        → result ≡ goes_on present (whole_box present (groups present memory.now)) (box_at memory.now disk.now) point time walked parent block }
 {
     let e = current_page::entry(memory, disk, block);
     if !records::says_kept(e, point, time) {
@@ -63,9 +64,9 @@ fn goes_on(
 
 // Walks the log, and takes the records of each block walked.
 fn walk(memory: &[u8], disk: &[u8], point: u32, time: u32, res: &mut [u8])
-    requires { WalkReady present (box_at memory disk) res.old }
+    requires { WalkReady present (box_at memory.now disk.now) res.old }
     ensures { res.new
-        ≡ newest_bytes (recovered present (whole_box present (groups present memory.now)) (box_at memory.entry disk.entry) point time) 0 parts }
+        ≡ newest_bytes (recovered present (whole_box present (groups present memory.now)) (box_at memory.now disk.now) point time) 0 parts }
 {
     let end = versions_search::end_of(memory);
     let mut marks = [0u8; marks::MARKS_SIZE];
@@ -91,8 +92,8 @@ fn walk(memory: &[u8], disk: &[u8], point: u32, time: u32, res: &mut [u8])
 
 // The parts that the log has by the point: 0 with their blocks in the result; where its number is not 0, no byte is changed.
 pub fn recover(memory: &[u8], disk: &[u8], point: u32, time: u32, res: &mut [u8]) -> u32
-    ensures { recovery_at result res.exit
-        ≡ R.recover present (whole_box present (groups present memory.now)) (box_at memory.entry disk.entry) point time res.old }
+    ensures { recovery_at result res.new
+        ≡ R.recover present (whole_box present (groups present memory.now)) (box_at memory.now disk.now) point time res.old }
 {
     let number = refusal(memory, disk, time, res);
     if number != machine::ACCEPTED {

@@ -27,8 +27,8 @@ pub(crate) fn says_kept(e: Entry, point: u32, time: u32) -> bool
 
 // Whether a block is in range, not free, and was written by the point.
 fn is_kept(memory: &[u8], disk: &[u8], point: u32, time: u32, end: u32, block: u32) -> bool
-    requires { KeptReady present (box_at memory disk) end }
-    ensures { result ≡ is_kept present (whole_box present (groups present memory.now)) (box_at memory.entry disk.entry) point time block }
+    requires { KeptReady present (box_at memory.now disk.now) end }
+    ensures { result ≡ is_kept present (whole_box present (groups present memory.now)) (box_at memory.now disk.now) point time block }
 {
     if block >= end {
         return false;
@@ -47,8 +47,8 @@ fn take_record(
     i: u32,
     res: &mut [u8],
 )
-    requires { TakeReady present (box_at memory disk) end content.now res.old × (i < records_per_block present) }
-    ensures { Takes present (box_at memory.entry disk.entry) point time (record_at content.now (record_size * i) ∷ [])
+    requires { TakeReady present (box_at memory.now disk.now) end content.now res.old × (i < records_per_block present) }
+    ensures { Takes present (box_at memory.now disk.now) point time (record_at content.now (record_size * i) ∷ [])
         res.old res.new }
 {
     let at = layout::RECORD_SIZE * i as usize;
@@ -72,8 +72,8 @@ pub(crate) fn take_records(
     content: &[u8],
     res: &mut [u8],
 )
-    requires { TakeReady present (box_at memory disk) end content.now res.old }
-    ensures { Takes present (box_at memory.entry disk.entry) point time (records_read present content.now)
+    requires { TakeReady present (box_at memory.now disk.now) end content.now res.old }
+    ensures { Takes present (box_at memory.now disk.now) point time (records_read present content.now)
         res.old res.new }
 {
     let mut i = 0;

@@ -26,7 +26,7 @@ recovery_of number result = record { number = number; result = result }
 
 -- what the result's reference shows, at exit
 abbrev pub recovery_at : ℕ → ByteSlice → Recovery
-recovery_at number result = recovery_of number result.now
+recovery_at number result = recovery_of number result
 
 -- "256 block numbers of 4 bytes", as the version store's state has them
 abbrev pub result_size : ℕ

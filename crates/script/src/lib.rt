@@ -21,7 +21,7 @@ pub struct Fed {
 
 // Formats the box of a script, one group with a zero salt, and answers the reader of its first byte.
 pub fn begin(memory: &mut [u8; MEMORY_SIZE], disk: &mut [u8; GROUP_SIZE]) -> Reader
-    ensures { (result ≡ begun) × (box_at memory.exit disk.exit ≡ script_box (box_at memory.entry disk.entry)) }
+    ensures { (result ≡ begun) × (box_at memory.new disk.new ≡ script_box (box_at memory.old disk.old)) }
 {
     let salt = [0u8; SALT_SIZE];
     formatter::format(memory, disk, 1, &salt);
@@ -40,8 +40,8 @@ pub fn feed(
     piece: &[u8],
     out: &mut [u8],
 ) -> Fed
-    ensures { (fed_of result.taken result.progress (box_at memory.exit disk.exit) out.new
-        ≡ R.fed reader (box_at memory.entry disk.entry) piece.now out.old)
+    ensures { (fed_of result.taken result.progress (box_at memory.new disk.new) out.new
+        ≡ R.fed reader (box_at memory.old disk.old) piece.now out.old)
         × (result.progress.end ≤ length out.old) }
 {
     if out.len() / MOST_PRINTED < piece.len() {
@@ -75,8 +75,8 @@ pub fn finish(
     disk: &mut [u8; GROUP_SIZE],
     out: &mut [u8],
 ) -> Fed
-    ensures { (fed_of result.taken result.progress (box_at memory.exit disk.exit) out.new
-        ≡ R.finished reader (box_at memory.entry disk.entry) out.old)
+    ensures { (fed_of result.taken result.progress (box_at memory.new disk.new) out.new
+        ≡ R.finished reader (box_at memory.old disk.old) out.old)
         × (result.progress.end ≤ length out.old) }
 {
     if out.len() < MOST_PRINTED {

@@ -39,7 +39,7 @@ fn send(
     proof: &[u8],
 ) -> Shown
     ensures { ran_of memory.new disk.new result
-        ≡ ran_with v.kind (step present (box_at memory.entry disk.entry)
+        ≡ ran_with v.kind (step present (box_at memory.old disk.old)
         (command_of v.kind v.block v.time v.value content.now proof.now buffer)) }
 {
     let mut answer = [0u8; ANSWER_SIZE];
@@ -84,8 +84,8 @@ fn get_page(
     page: &mut [u8; ANSWER_SIZE],
 )
     requires { page.old ≡ buffer }
-    ensures { (box_at memory.exit disk.exit ≡ (page_got (box_at memory.entry disk.entry)).box)
-        × (page.new ≡ (page_got (box_at memory.entry disk.entry)).answer) }
+    ensures { (box_at memory.new disk.new ≡ (page_got (box_at memory.old disk.old)).box)
+        × (page.new ≡ (page_got (box_at memory.old disk.old)).answer) }
 {
     let time = memory::last_time(memory);
     controller::command(memory, disk, PAGE_KIND, 0, time, 0, b"", b"", page);
@@ -93,7 +93,7 @@ fn get_page(
 
 // Runs a line's command: a write's data and a new salt are of value mod 256, and kinds 4 to 6 bring the page that it gets first.
 pub fn run(memory: &mut [u8; MEMORY_SIZE], disk: &mut [u8; GROUP_SIZE], v: Values) -> Shown
-    ensures { ran_of memory.new disk.new result ≡ ran_line (box_at memory.entry disk.entry) v }
+    ensures { ran_of memory.new disk.new result ≡ ran_line (box_at memory.old disk.old) v }
 {
     let k = kinds::kind_numbered(v.kind, v.value);
     let content = [(v.value % 256) as u8; BLOCK_SIZE];

@@ -96,8 +96,8 @@ fn end_line(
     at: usize,
 ) -> Progress
     requires { at + most_printed ≤ length out.old }
-    ensures { (placed_of result (box_at memory.exit disk.exit) out.new
-        ≡ placed out.old at (line_end number line (box_at memory.entry disk.entry)))
+    ensures { (placed_of result (box_at memory.new disk.new) out.new
+        ≡ placed out.old at (line_end number line (box_at memory.old disk.old)))
         × (result.end ≤ at + most_printed) }
 {
     match script_lines::judge(line) {
@@ -124,8 +124,8 @@ fn read_body(
     at: usize,
 ) -> Progress
     requires { at + most_printed ≤ length out.old }
-    ensures { (placed_of result (box_at memory.exit disk.exit) out.new
-        ≡ placed out.old at (body_byte number line (box_at memory.entry disk.entry) byte))
+    ensures { (placed_of result (box_at memory.new disk.new) out.new
+        ≡ placed out.old at (body_byte number line (box_at memory.old disk.old) byte))
         × (result.end ≤ at + most_printed) }
 {
     if byte == NEWLINE {
@@ -153,8 +153,8 @@ pub fn read_byte(
     at: usize,
 ) -> Progress
     requires { at + most_printed ≤ length out.old }
-    ensures { (placed_of result (box_at memory.exit disk.exit) out.new
-        ≡ placed out.old at (byte_read reader (box_at memory.entry disk.entry) byte))
+    ensures { (placed_of result (box_at memory.new disk.new) out.new
+        ≡ placed out.old at (byte_read reader (box_at memory.old disk.old) byte))
         × (result.end ≤ at + most_printed) }
 {
     let number = reader.number;
@@ -178,8 +178,8 @@ fn end_body(
     out: &mut [u8],
 ) -> Progress
     requires { most_printed ≤ length out.old }
-    ensures { (placed_of result (box_at memory.exit disk.exit) out.new
-        ≡ placed out.old 0 (body_end reader line (box_at memory.entry disk.entry)))
+    ensures { (placed_of result (box_at memory.new disk.new) out.new
+        ≡ placed out.old 0 (body_end reader line (box_at memory.old disk.old)))
         × (result.end ≤ most_printed) }
 {
     if script_lines::is_blank(line) {
@@ -199,8 +199,8 @@ pub fn end_input(
     out: &mut [u8],
 ) -> Progress
     requires { most_printed ≤ length out.old }
-    ensures { (placed_of result (box_at memory.exit disk.exit) out.new
-        ≡ placed out.old 0 (input_end reader (box_at memory.entry disk.entry)))
+    ensures { (placed_of result (box_at memory.new disk.new) out.new
+        ≡ placed out.old 0 (input_end reader (box_at memory.old disk.old)))
         × (result.end ≤ most_printed) }
 {
     let number = reader.number;

@@ -60,8 +60,8 @@ fn read_piece<R: Read>(
     piece: &mut [u8],
     out: &mut [u8],
 ) -> Turn
-    ensures { fed_of result.fed.taken result.fed.progress (box_at memory.exit disk.exit) out.new
-        ≡ stepped reader (box_at memory.entry disk.entry) result.got piece.new out.old }
+    ensures { fed_of result.fed.taken result.fed.progress (box_at memory.new disk.new) out.new
+        ≡ stepped reader (box_at memory.old disk.old) result.got piece.new out.old }
 {
     let got = read_bytes(input, piece);
     let fed = steps::step(reader, memory, disk, got, piece, out);

@@ -20,8 +20,8 @@ pub(crate) fn step(
     piece: &[u8],
     out: &mut [u8],
 ) -> Fed
-    ensures { (fed_of result.taken result.progress (box_at memory.exit disk.exit) out.new
-        ≡ stepped reader (box_at memory.entry disk.entry) got piece.now out.old)
+    ensures { (fed_of result.taken result.progress (box_at memory.new disk.new) out.new
+        ≡ stepped reader (box_at memory.old disk.old) got piece.now out.old)
         × (result.progress.end ≤ length out.old) }
 {
     if got < 0 {

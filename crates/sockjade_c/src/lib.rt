@@ -37,9 +37,9 @@ pub extern "C" fn sockjade_command(
     proof: &[u8],
     answer: &mut [u8],
 ) -> u32
-    ensures { outcome_at result memory.exit disk.exit answer.exit
-        ≡ step present (box_at memory.entry disk.entry)
-        (command_at kind block time value content.entry proof.entry answer.entry) }
+    ensures { outcome_at result memory.new disk.new answer.new
+        ≡ step present (box_at memory.old disk.old)
+        (command_at kind block time value content.now proof.now answer.old) }
 {
     sockjade::sockjade_command(
         memory, disk, kind, block, time, value, content, proof, answer,
@@ -56,8 +56,8 @@ pub extern "C" fn sockjade_states(
     time: u32,
     answer: &mut [u8],
 ) -> u64
-    ensures { query_outcome_at (low_half result) (high_half result) memory.exit disk.entry answer.exit
-        ≡ query_step present (box_at memory.entry disk.entry) (query_at blocks.entry time answer.entry) }
+    ensures { query_outcome_at (low_half result) (high_half result) memory.new disk.now answer.new
+        ≡ query_step present (box_at memory.old disk.now) (query_at blocks.now time answer.old) }
 {
     sockjade::sockjade_states(memory, disk, blocks, time, answer)
 }
@@ -65,7 +65,7 @@ pub extern "C" fn sockjade_states(
 // Starts a version store with a lock: its number, with the state as document 02 has it; where the number is not 0, no byte changed.
 #[unsafe(no_mangle)]
 pub extern "C" fn sockjade_versions_start(state: &mut [u8], lock: u32) -> u32
-    ensures { started_at result state.exit ≡ start_bytes present first_block state.old lock }
+    ensures { started_at result state.new ≡ start_bytes present first_block state.old lock }
 {
     sockjade::sockjade_versions_start(state, lock)
 }
@@ -81,8 +81,8 @@ pub extern "C" fn sockjade_versions_put(
     time: u32,
     content: &[u8],
 ) -> u64
-    ensures { called_at (low_half result) (high_half result) state.exit memory.exit disk.exit
-        ≡ put_bytes present (whole_box present (groups present memory.old)) state.old (box_at memory.entry disk.entry)
+    ensures { called_at (low_half result) (high_half result) state.new memory.new disk.new
+        ≡ put_bytes present (whole_box present (groups present memory.old)) state.old (box_at memory.old disk.old)
         part time content.now }
 {
     sockjade::sockjade_versions_put(state, memory, disk, part, time, content)
@@ -97,8 +97,8 @@ pub extern "C" fn sockjade_versions_flush(
     disk: &mut [u8],
     time: u32,
 ) -> u32
-    ensures { called_at result 0 state.exit memory.exit disk.exit
-        ≡ flush_bytes present (whole_box present (groups present memory.old)) state.old (box_at memory.entry disk.entry) time }
+    ensures { called_at result 0 state.new memory.new disk.new
+        ≡ flush_bytes present (whole_box present (groups present memory.old)) state.old (box_at memory.old disk.old) time }
 {
     sockjade::sockjade_versions_flush(state, memory, disk, time)
 }
@@ -121,8 +121,8 @@ pub extern "C" fn sockjade_recover(
     time: u32,
     res: &mut [u8],
 ) -> u32
-    ensures { recovery_at result res.exit
-        ≡ recover present (whole_box present (groups present memory.now)) (box_at memory.entry disk.entry) point time
+    ensures { recovery_at result res.new
+        ≡ recover present (whole_box present (groups present memory.now)) (box_at memory.now disk.now) point time
         res.old }
 {
     sockjade::sockjade_recover(memory, disk, point, time, res)
@@ -136,8 +136,8 @@ pub extern "C" fn sockjade_format(
     groups: u32,
     salt: &[u8],
 ) -> u32
-    ensures { format_outcome_at result memory.exit disk.exit
-        ≡ format present (box_at memory.entry disk.entry) groups salt.now }
+    ensures { format_outcome_at result memory.new disk.new
+        ≡ format present (box_at memory.old disk.old) groups salt.now }
 {
     sockjade::sockjade_format(memory, disk, groups, salt)
 }
@@ -146,7 +146,7 @@ pub extern "C" fn sockjade_format(
 // number is not 0, no byte changed.
 #[unsafe(no_mangle)]
 pub extern "C" fn sockjade_migrate(old: &[u8], memory: &mut [u8]) -> u32
-    ensures { migration_at result memory.exit ≡ migrate base present.most_groups old.now memory.old }
+    ensures { migration_at result memory.new ≡ migrate base present.most_groups old.now memory.old }
 {
     sockjade::sockjade_migrate(old, memory)
 }

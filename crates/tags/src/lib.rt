@@ -1,6 +1,7 @@
 // The tag of a page: made, compared with the one that is brought, and put behind the page in an answer. The contracts
 // cite the definitions of machine.
 #![tactic(auto)]
+
 ghost use Rattle.std.specs.Prelude.{◌≡◌, length};
 ghost use Rattle.octets.specs.Part.{part, equal};
 ghost use Rattle.lockpage.specs.Geometry.{present};

@@ -29,7 +29,7 @@ fn refused(number: u32) -> Answered
 
 // Starts a store with a lock: its state in buffer.
 pub fn start(buffer: &mut [u8], lock: u32) -> u32
-    ensures { started_at result buffer.exit ≡ start_bytes present first_block buffer.old lock }
+    ensures { started_at result buffer.new ≡ start_bytes present first_block buffer.old lock }
 {
     if buffer.len() != versions_state::layout::STATE_SIZE {
         return machine::MEMORY_INVALID;
@@ -66,8 +66,8 @@ pub fn put(
     time: u32,
     content: &[u8],
 ) -> Answered
-    ensures { called_at result.number result.block state.exit memory.exit disk.exit
-        ≡ put_bytes present (whole_box present (groups present memory.old)) state.old (box_at memory.entry disk.entry)
+    ensures { called_at result.number result.block state.new memory.new disk.new
+        ≡ put_bytes present (whole_box present (groups present memory.old)) state.old (box_at memory.old disk.old)
         part time content.now }
 {
     if part > versions_machine::LAST_PART {
@@ -93,8 +93,8 @@ pub fn put(
 
 // Stores the records that no log block has yet: its number; where that is not 0, no byte is changed.
 pub fn flush(state: &mut [u8], memory: &mut [u8], disk: &mut [u8], time: u32) -> u32
-    ensures { called_at result 0 state.exit memory.exit disk.exit
-        ≡ flush_bytes present (whole_box present (groups present memory.old)) state.old (box_at memory.entry disk.entry) time }
+    ensures { called_at result 0 state.new memory.new disk.new
+        ≡ flush_bytes present (whole_box present (groups present memory.old)) state.old (box_at memory.old disk.old) time }
 {
     if !versions_state::valid(state) {
         return machine::MEMORY_INVALID;

@@ -86,7 +86,7 @@ module _ (γ : Geometry) where
 
 -- what the references of a call show, at exit
 abbrev pub called_at : ℕ → ℕ → ByteSlice → ByteSlice → ByteSlice → Called
-called_at number block state memory disk = called_of number block state.now (box_at memory disk)
+called_at number block state memory disk = called_of number block state (box_at memory disk)
 
 abbrev pub started_at : ℕ → ByteSlice → Started
-started_at number state = started_of number state.now
+started_at number state = started_of number state

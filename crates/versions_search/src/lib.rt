@@ -1,5 +1,6 @@
 // Which block is allocated next. The contracts cite the definitions of versions_machine, and specs/ what is taken for granted.
 #![tactic(auto)]
+
 ghost use Rattle.std.specs.Prelude.{◌≡◌, true, ◌-◌, length};
 ghost use Rattle.lockpage.specs.Geometry.{present};
 ghost use Rattle.addressing.specs.Map.{data_blocks, group_of};
@@ -35,7 +36,7 @@ fn is_free(s: State) -> bool
 // Whether a block is free, and is not the reserve. Its entry is read where it lies.
 fn is_available(memory: &[u8], disk: &[u8], time: u32, reserve: u32, block: u32) -> bool
     requires { (length memory.now ≡ memory_size present) × HasGroup present disk.now (group_of present block) }
-    ensures { result ≡ is_available present (box_at memory.entry disk.entry) time reserve block }
+    ensures { result ≡ is_available present (box_at memory.now disk.now) time reserve block }
 {
     let e = current_page::entry(memory, disk, block);
     is_free(states::state(e, time)) && block != reserve
@@ -43,8 +44,8 @@ fn is_available(memory: &[u8], disk: &[u8], time: u32, reserve: u32, block: u32)
 
 // The first available block from one on, before the end, or the end where there is none.
 fn next_in(memory: &[u8], disk: &[u8], time: u32, reserve: u32, from: u32, end: u32) -> u32
-    requires { SearchReady present (box_at memory disk) from end }
-    ensures { result ≡ first_that (is_available present (box_at memory.entry disk.entry) time reserve) (blocks_from from (end - from)) end }
+    requires { SearchReady present (box_at memory.now disk.now) from end }
+    ensures { result ≡ first_that (is_available present (box_at memory.now disk.now) time reserve) (blocks_from from (end - from)) end }
 {
     let mut block = from;
     while block < end {
@@ -73,8 +74,8 @@ fn behind(taken: u32, end: u32) -> u32
 
 // The block that is allocated next.
 pub fn next(memory: &[u8], disk: &[u8], time: u32, reserve: u32, taken: u32) -> u32
-    requires { ValidBox present (box_at memory disk) }
-    ensures { result ≡ next_available present (whole_box present (groups present memory.now)) (box_at memory.entry disk.entry)
+    requires { ValidBox present (box_at memory.now disk.now) }
+    ensures { result ≡ next_available present (whole_box present (groups present memory.now)) (box_at memory.now disk.now)
         time reserve taken }
 {
     let end = end_of(memory);
@@ -89,10 +90,10 @@ pub fn next(memory: &[u8], disk: &[u8], time: u32, reserve: u32, taken: u32) -> 
 
 // The block that is allocated next, and whether there is another one besides it. The search stops at the second.
 pub fn two(memory: &[u8], disk: &[u8], time: u32, reserve: u32, taken: u32) -> Found
-    requires { ValidBox present (box_at memory disk) }
-    ensures { (result.block ≡ next_available present (whole_box present (groups present memory.now)) (box_at memory.entry disk.entry)
+    requires { ValidBox present (box_at memory.now disk.now) }
+    ensures { (result.block ≡ next_available present (whole_box present (groups present memory.now)) (box_at memory.now disk.now)
         time reserve taken)
-        × (result.two ≡ two_available present (whole_box present (groups present memory.now)) (box_at memory.entry disk.entry) time reserve) }
+        × (result.two ≡ two_available present (whole_box present (groups present memory.now)) (box_at memory.now disk.now) time reserve) }
 {
     let end = end_of(memory);
     let start = behind(taken, end);

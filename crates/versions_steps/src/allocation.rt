@@ -27,7 +27,7 @@ fn refused(number: u32) -> Taken
 pub fn allocate(state: &[u8], memory: &[u8], disk: &[u8], time: u32) -> Taken
     requires { is_valid present state.now ≡ true }
     ensures { Allocated present (whole_box present (groups present memory.now)) state.now
-        (box_at memory.entry disk.entry) time result.number result.block }
+        (box_at memory.now disk.now) time result.number result.block }
 {
     let number = arguments::box_questions::refusal(memory, disk, time);
     if number != machine::ACCEPTED {

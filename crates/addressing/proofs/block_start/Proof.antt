@@ -8,5 +8,5 @@ returns : tie.Need-returns
 unfolding block_start
 returns c = search rules
 
-pub block-start-spec : {M : Type 1} → statement M
-block-start-spec = tie.close (tie.spec (λ c. search rules) returns)
+pub block_start_spec : {M : Type 1} → statement M
+block_start_spec = tie.close (tie.spec (λ c. search rules) returns)

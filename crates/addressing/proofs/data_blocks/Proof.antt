@@ -8,5 +8,5 @@ returns : tie.Need-returns
 unfolding data_blocks
 returns c = search rules
 
-pub data-blocks-spec : {M : Type 1} → statement M
-data-blocks-spec = tie.close (tie.spec (λ c. search rules) returns)
+pub data_blocks_spec : {M : Type 1} → statement M
+data_blocks_spec = tie.close (tie.spec (λ c. search rules) returns)

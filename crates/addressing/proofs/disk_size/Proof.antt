@@ -8,5 +8,5 @@ returns : tie.Need-returns
 unfolding disk_size
 returns c = search rules
 
-pub disk-size-spec : {M : Type 1} → statement M
-disk-size-spec = tie.close (tie.spec (λ c. search rules) returns)
+pub disk_size_spec : {M : Type 1} → statement M
+disk_size_spec = tie.close (tie.spec (λ c. search rules) returns)

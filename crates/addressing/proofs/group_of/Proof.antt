@@ -7,5 +7,5 @@ use Rattle.addressing.proofs.group_of.Tie as tie
 returns : tie.Need-returns
 returns c = group_of_shift σ index_bits _ present_entries
 
-pub group-of-spec : {M : Type 1} → statement M
-group-of-spec = tie.close (tie.spec returns)
+pub group_of_spec : {M : Type 1} → statement M
+group_of_spec = tie.close (tie.spec returns)

@@ -8,5 +8,5 @@ returns : tie.Need-returns
 unfolding group_start
 returns c = search rules
 
-pub group-start-spec : {M : Type 1} → statement M
-group-start-spec = tie.close (tie.spec (λ c. search rules) returns)
+pub group_start_spec : {M : Type 1} → statement M
+group_start_spec = tie.close (tie.spec (λ c. search rules) returns)

@@ -8,11 +8,11 @@ use Rattle.addressing.proofs.place_of.Statement.{statement}
 use Rattle.addressing.proofs.place_of.Tie as tie
 
 -- a mask makes no number larger
-fits : tie.Need-overflow-cast-result
+fits : tie.Need-overflow_cast-result
 fits c = record { fits = lt_of_le_of_lt (and_le_l c.args.block _) (omega (arith, c.ranges)) }
 
 returns : tie.Need-returns
 returns c = place_of_mask σ index_bits _ present_entries
 
-pub place-of-spec : {M : Type 1} → statement M
-place-of-spec = tie.close (tie.spec fits returns)
+pub place_of_spec : {M : Type 1} → statement M
+place_of_spec = tie.close (tie.spec fits returns)

@@ -11,5 +11,5 @@ returns c =
     let start = copied.before.before.before.before in
     page_copied σ _ _ start.requires.0 _ start.requires.1 copied.copy.ensures
 
-pub copy-page-spec : {M : Type 1} → statement M
-copy-page-spec = tie.close (tie.spec (λ c κs. search rules) (λ c. search rules) returns)
+pub copy_page_spec : {M : Type 1} → statement M
+copy_page_spec = tie.close (tie.spec (λ c κs. search rules) (λ c. search rules) returns)

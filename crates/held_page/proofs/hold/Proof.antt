@@ -11,9 +11,9 @@ returns c =
     let counted = copied.before.before.before.before in
     let stored = counted.before.before.before.before in
     let start = stored.before.before.before.before in
-    page_stored σ _ _ _ _ _ _ _ start.requires.0.page_size_is stored.store-u8.ensures counted.store-u82.ensures copied.copy.ensures
+    page_stored σ _ _ _ _ _ _ _ start.requires.0.page_size_is stored.store_u8.ensures counted.store_u8-2.ensures copied.copy.ensures
 
-pub hold-spec : {M : Type 1} → statement M
-hold-spec =
+pub hold_spec : {M : Type 1} → statement M
+hold_spec =
     tie.close
     (tie.spec (λ c. search rules) (λ c κs. search rules) (λ c. search rules) (λ c κs. search rules) (λ c κs. search rules) (λ c. search rules) returns)

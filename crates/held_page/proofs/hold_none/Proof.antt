@@ -10,10 +10,10 @@ returns c =
     let cleared = c.before.before in
     let counted = cleared.before.before.before.before in
     let stored = counted.before.before.before.before in
-    page_cleared σ _ _ _ _ stored.store-u8.ensures counted.store-u82.ensures cleared.zero-page.ensures
+    page_cleared σ _ _ _ _ stored.store_u8.ensures counted.store_u8-2.ensures cleared.zero_page.ensures
 
-pub hold-none-spec : {M : Type 1} → statement M
-hold-none-spec =
+pub hold_none_spec : {M : Type 1} → statement M
+hold_none_spec =
     tie.close
     (tie.spec (λ c κs. search rules) (λ c κs. search rules) (λ c. search rules) (λ c. search rules) (λ c. search rules) (λ c. search rules)
     (λ c κs. search rules) (λ c. search rules) returns)

@@ -8,5 +8,5 @@ returns : tie.Need-returns
 unfolding held_page
 returns c = c.filled.ensures
 
-pub is-zero-spec : {M : Type 1} → statement M
-is-zero-spec = tie.close (tie.spec (λ c κs. search rules) returns)
+pub is_zero_spec : {M : Type 1} → statement M
+is_zero_spec = tie.close (tie.spec (λ c κs. search rules) returns)

@@ -7,9 +7,9 @@ use Rattle.held_page.proofs.load_entry.Tie as tie
 
 returns : tie.Need-returns
 unfolding held_page part
-returns c = c.load-entry.ensures
+returns c = c.load_entry.ensures
 
-pub load-entry-spec : {M : Type 1} → statement M
-load-entry-spec =
+pub load_entry_spec : {M : Type 1} → statement M
+load_entry_spec =
     tie.close
     (tie.spec (λ c. search rules) (λ c. search rules) (λ c. search rules) (λ c. search rules) (λ c κs. search rules) returns)

@@ -13,5 +13,5 @@ returns c =
     let start = copied.before.before.before.before in
     zeros_stored σ _ _ start.requires copied.copy.ensures
 
-pub zero-page-spec : {M : Type 1} → statement M
-zero-page-spec = tie.close (tie.spec (λ c. search rules) (λ c κs. search rules) (λ c. search rules) returns)
+pub zero_page_spec : {M : Type 1} → statement M
+zero_page_spec = tie.close (tie.spec (λ c. search rules) (λ c κs. search rules) (λ c. search rules) returns)

@@ -8,5 +8,5 @@ returns : tie.Need-returns
 unfolding with_no_counts
 returns c = search rules
 
-pub clear-counts-spec : {M : Type 1} → statement M
-clear-counts-spec = tie.close (tie.spec (λ c. search rules) (λ c κs. search rules) (λ c. search rules) returns)
+pub clear_counts_spec : {M : Type 1} → statement M
+clear_counts_spec = tie.close (tie.spec (λ c. search rules) (λ c κs. search rules) (λ c. search rules) returns)

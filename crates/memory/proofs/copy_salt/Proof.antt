@@ -11,5 +11,5 @@ returns c =
     let start = copied.before.before.before.before in
     salt_copied σ _ _ start.requires.0 _ start.requires.1 copied.copy.ensures
 
-pub copy-salt-spec : {M : Type 1} → statement M
-copy-salt-spec = tie.close (tie.spec (λ c κs. search rules) (λ c. search rules) returns)
+pub copy_salt_spec : {M : Type 1} → statement M
+copy_salt_spec = tie.close (tie.spec (λ c κs. search rules) (λ c. search rules) returns)

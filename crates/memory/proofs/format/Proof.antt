@@ -12,11 +12,11 @@ returns c =
     let second = third.before.before.before.before in
     let first = second.before.before.before.before in
     let start = first.before.before.before.before in
-    format_stored σ _ _ _ _ _ _ _ start.requires.size first.fill.ensures second.set-salt.ensures
-    third.store-u8.ensures last.store-u82.ensures
+    format_stored σ _ _ _ _ _ _ _ start.requires.size first.fill.ensures second.set_salt.ensures
+    third.store_u8.ensures last.store_u8-2.ensures
 
-pub format-spec : {M : Type 1} → statement M
-format-spec =
+pub format_spec : {M : Type 1} → statement M
+format_spec =
     tie.close
     (tie.spec (λ c κs. search rules) (λ c κs. search rules) (λ c. search rules) (λ c κs. search rules)
     (λ c κs. search rules) (λ c. search rules) returns)

@@ -8,5 +8,5 @@ returns : tie.Need-returns
 unfolding groups
 returns c = search rules
 
-pub groups-spec : {M : Type 1} → statement M
-groups-spec = tie.close (tie.spec (λ c κs. search rules) (λ c. search rules) returns)
+pub groups_spec : {M : Type 1} → statement M
+groups_spec = tie.close (tie.spec (λ c κs. search rules) (λ c. search rules) returns)

@@ -9,7 +9,7 @@ returns : tie.Need-returns
 unfolding salt part
 returns c = c.equal.ensures
 
-pub has-salt-spec : {M : Type 1} → statement M
-has-salt-spec =
+pub has_salt_spec : {M : Type 1} → statement M
+has_salt_spec =
     tie.close
     (tie.spec (λ c. search rules) (λ c. search rules) (λ c. search rules) (λ c. search rules) (λ c κs. search rules) returns)

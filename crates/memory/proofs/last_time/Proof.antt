@@ -8,5 +8,5 @@ returns : tie.Need-returns
 unfolding last_time
 returns c = search rules
 
-pub last-time-spec : {M : Type 1} → statement M
-last-time-spec = tie.close (tie.spec (λ c κs. search rules) returns)
+pub last_time_spec : {M : Type 1} → statement M
+last_time_spec = tie.close (tie.spec (λ c κs. search rules) returns)

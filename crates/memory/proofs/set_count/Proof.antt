@@ -7,7 +7,7 @@ use Rattle.memory.proofs.set_count.Tie as tie
 returns : tie.Need-returns
 returns c =
     let stored = c.before.before in
-    count_stored _ _ _ _ _ stored.before.count-start.ensures stored.store-u32.ensures
+    count_stored _ _ _ _ _ stored.before.count_start.ensures stored.store_u32.ensures
 
-pub set-count-spec : {M : Type 1} → statement M
-set-count-spec = tie.close (tie.spec (λ c κs. search rules) (λ c κs. search rules) (λ c. search rules) returns)
+pub set_count_spec : {M : Type 1} → statement M
+set_count_spec = tie.close (tie.spec (λ c κs. search rules) (λ c κs. search rules) (λ c. search rules) returns)

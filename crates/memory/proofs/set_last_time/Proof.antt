@@ -8,5 +8,5 @@ returns : tie.Need-returns
 unfolding with_last_time
 returns c = search rules
 
-pub set-last-time-spec : {M : Type 1} → statement M
-set-last-time-spec = tie.close (tie.spec (λ c κs. search rules) (λ c. search rules) returns)
+pub set_last_time_spec : {M : Type 1} → statement M
+set_last_time_spec = tie.close (tie.spec (λ c κs. search rules) (λ c. search rules) returns)

@@ -11,9 +11,9 @@ returns c =
     let stored = c.before.before in
     let buffered = stored.before.before.before.before in
     let start = buffered.before.before.before.before in
-    salt_buffered σ _ _ _ _ _ start.requires.0 refl start.requires.1 buffered.copy.ensures stored.copy2.ensures
+    salt_buffered σ _ _ _ _ _ start.requires.0 refl start.requires.1 buffered.copy.ensures stored.copy-2.ensures
 
-pub set-salt-spec : {M : Type 1} → statement M
-set-salt-spec =
+pub set_salt_spec : {M : Type 1} → statement M
+set_salt_spec =
     tie.close
     (tie.spec (λ c. search rules) (λ c κs. search rules) (λ c. search rules) (λ c κs. search rules) (λ c. search rules) returns)

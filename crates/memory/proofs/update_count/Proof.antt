@@ -8,5 +8,5 @@ returns : tie.Need-returns
 unfolding update_count
 returns c = search rules
 
-pub update-count-spec : {M : Type 1} → statement M
-update-count-spec = tie.close (tie.spec (λ c κs. search rules) (λ c. search rules) returns)
+pub update_count_spec : {M : Type 1} → statement M
+update_count_spec = tie.close (tie.spec (λ c κs. search rules) (λ c. search rules) returns)

@@ -12,8 +12,8 @@ returns c =
     let made = c.before.before.before.before in
     c.equal.ensures ∙ ap (equal _) made.tag.ensures
 
-pub matches-spec : {M : Type 1} → statement M
-matches-spec =
+pub matches_spec : {M : Type 1} → statement M
+matches_spec =
     tie.close
     (tie.spec (λ c. search rules) (λ c. search rules) (λ c. search rules) (λ c. search rules) (λ c κs. search rules) (λ c. search rules)
     (λ c. search rules) (λ c. search rules) (λ c. search rules) (λ c κs. search rules) returns)

@@ -11,9 +11,9 @@ unfolding tag
 returns c =
     let digested = c.before.before in
     let stored = digested.before.before.before.before in
-    digested.digest.ensures ∙ ap digest stored.store-message.ensures
+    digested.digest.ensures ∙ ap digest stored.store_message.ensures
 
-pub tag-spec : {M : Type 1} → statement M
-tag-spec =
+pub tag_spec : {M : Type 1} → statement M
+tag_spec =
     tie.close
     (tie.spec (λ c. search rules) (λ c κs. search rules) (λ c. search rules) (λ c κs. search rules) (λ c. search rules) returns)

@@ -1,40 +1,40 @@
 -- `validity::are_unused` meets its contract, piece by piece. Assumes nothing.
 use borrow.Author.Rules.{rules}
-use mathlib.Core.Path.{sym, ◌∙◌}
-use mathlib.Core.Logic.{inl, inr}
-use mathlib.Mathlib.Data.Bool.Basic.{eq-true_of_not-eq-false'}
+use mathlib.Core.Bool.{not}
+use mathlib.Core.Path.{sym, ap, ◌∙◌}
 use Prim.Native.Nat.{◌≤◌}
 use native.Mathlib.Omega.{arith}
 use Rattle.lockpage.specs.Geometry.{present}
 use Rattle.memory.specs.Layout.{time_start}
 use Rattle.validity.proofs.CheckLaw.{piece_used, piece_all, last_decides}
 use Rattle.validity.proofs.are_unused.Statement.{statement}
+use Rattle.validity.proofs.are_unused.Lts.{then-first-le-FEW_GROUPS+else-not-filled+else-first-eq-FEW_GROUPS, else-first-le-FEW_GROUPS}
 use Rattle.validity.proofs.are_unused.Tie as tie
 
 -- another count of the piece is used
-piece : tie.Need-returns
+piece : tie.Need-returns-then-not-filled
 piece c =
     let compared = c.before in
     let few = compared.before in
-    piece_used _ _ _ _ _ _ few.before.count-start.ensures compared.filled.ensures (omega (arith, few.if1.true)) c.if2.true
+    piece_used _ _ _ _ _ _ few.before.count_start-from.ensures compared.filled.ensures (omega (arith, few.if-first-le-FEW_GROUPS.true)) (ap not c.if-not-filled.true)
 
 -- the piece ends with the last count
-whole : tie.Need-returns-2
+whole : tie.Need-returns-then-first-eq-FEW_GROUPS
 whole c =
     let zero = c.before in
     let compared = zero.before in
-    sym (eq-true_of_not-eq-false' zero.if2.false)
-    ∙ piece_all _ _ _ _ _ _ compared.before.before.count-start.ensures compared.filled.ensures (omega (arith, c.if3.true))
+    sym (zero.if-not-filled.false)
+    ∙ piece_all _ _ _ _ _ _ compared.before.before.count_start-from.ensures compared.filled.ensures (omega (arith, c.if-first-eq-FEW_GROUPS.true))
 
 -- where the last comparison starts: not behind the counts
-from-most : (c : tie.Joined1) → c.if1.from ≤ time_start present
+from-most : (c : tie.Joined-first-le-FEW_GROUPS) → c.if-first-le-FEW_GROUPS.from ≤ time_start present
 from-most c =
-    elim c.if1.branch [
-      | inl few ↦ omega (arith, few.4)
-      | inr many ↦ omega (arith, many.1, c.before.count-start.ensures, c.before.before.before.requires.1)
+    elim c.if-first-le-FEW_GROUPS.branch [
+      | then-first-le-FEW_GROUPS+else-not-filled+else-first-eq-FEW_GROUPS few ↦ omega (arith, few.from-is)
+      | else-first-le-FEW_GROUPS many ↦ omega (arith, many.from-is, c.before.count_start-from.ensures, c.before.before.before.requires.1)
     ]
 
-sub-filled : tie.Need-overflow-sub-filled
+sub-filled : tie.Need-overflow_sub-from
 sub-filled c =
     let most = from-most c.before in
     search rules
@@ -45,18 +45,18 @@ filled-requires-2 c κs =
     let size = c.before.before.before.before.requires.0 in
     omega (arith, most, size)
 
-last : tie.Need-returns-3
+last : tie.Need-returns
 last c =
     let joined = c.before.before in
     let placed = joined.before in
-    elim joined.if1.branch [
-      | inl few ↦ last_decides _ _ _ _ _ _ placed.count-start.ensures few.1.ensures few.2.left _ _ (omega (arith, few.0.taken, few.4))
-          (omega (arith, few.4)) (omega (arith, few.0.taken, few.4)) _ c.filled2.ensures
-      | inr many ↦ piece_all _ _ _ _ _ _ (many.1 ∙ placed.count-start.ensures) c.filled2.ensures
-          (omega (arith, many.1, placed.count-start.ensures))
+    elim joined.if-first-le-FEW_GROUPS.branch [
+      | then-first-le-FEW_GROUPS+else-not-filled+else-first-eq-FEW_GROUPS few ↦ last_decides _ _ _ _ _ _ placed.count_start-from.ensures few.filled.ensures (ap not few.if-not-filled.false) _ _ (omega (arith, few.if-first-le-FEW_GROUPS.true, few.from-is))
+          (omega (arith, few.from-is)) (omega (arith, few.if-first-le-FEW_GROUPS.true, few.from-is)) _ c.filled-2.ensures
+      | else-first-le-FEW_GROUPS many ↦ piece_all _ _ _ _ _ _ (many.from-is ∙ placed.count_start-from.ensures) c.filled-2.ensures
+          (omega (arith, many.from-is, placed.count_start-from.ensures))
     ]
 
-pub are-unused-spec : {M : Type 1} → statement M
-are-unused-spec =
+pub are_unused_spec : {M : Type 1} → statement M
+are_unused_spec =
     tie.close
     (tie.spec (λ c κs. search rules) (λ c κs. search rules) piece whole (λ c. search rules) sub-filled filled-requires-2 last)

@@ -1,4 +1,6 @@
 -- `validity::valid` meets its contract, clause by clause. Assumes nothing.
+use mathlib.Core.Bool.{not}
+use mathlib.Core.Path.{ap}
 use borrow.Author.Rules.{rules}
 use mathlib.Core.List.{List}
 use Prim.Native.Nat.{ℕ}
@@ -11,48 +13,48 @@ use Rattle.validity.proofs.valid.Statement.{statement}
 use Rattle.validity.proofs.valid.Tie as tie
 
 -- the states on the way back: the unused counts compared, the groups read, the start
-abbrev compared : tie.Else6 → tie.After-are-unused
+abbrev compared : tie.Else-not-filled → tie.After-are_unused
 compared c = c.before.before.before
 
-abbrev grouped : tie.After-are-unused → tie.After-groups
+abbrev grouped : tie.After-are_unused → tie.After-groups-groups
 grouped c = c.before.before.before.before.before
 
-abbrev start : tie.After-groups → tie.Start
+abbrev start : tie.After-groups-groups → tie.Start
 start c = c.before.before.before
 
 -- the memory
-abbrev bytes : tie.After-are-unused → List ℕ
+abbrev bytes : tie.After-are_unused → List ℕ
 bytes c = (start (grouped c)).args.memory.now
 
-unused : tie.Need-returns-5
-unused c = counts_used σ _ _ _ (grouped c.before).groups.ensures c.before.are-unused.ensures c.if5.true
+unused : tie.Need-returns-then-not-are_unused
+unused c = counts_used σ _ _ _ (grouped c.before).groups-groups.ensures c.before.are_unused.ensures (ap not c.if-not-are_unused.true)
 
 -- the clauses on all but the held group, once they are passed
-passed : (c : tie.Else6) → Passed present (bytes (compared c))
+passed : (c : tie.Else-not-filled) → Passed present (bytes (compared c))
 passed c =
     let five = c.before.before in
     let four = (compared c).before in
     let three = four.before.before in
     let two = three.before in
-    let groups = two.before.groups.ensures in
+    let groups = two.before.groups-groups.ensures in
     record {
-      size = omega (arith, two.before.before.if1.left);
-      least = omega (arith, two.if2.left, groups);
-      most = omega (arith, three.if3.left, groups);
-      time = omega (arith, four.if4.left, four.before.last_time_is.ensures);
-      unused = counts_unused σ _ _ _ groups (compared c).are-unused.ensures five.if5.false;
-      reserved = reserved_zero σ _ _ c.before.filled.ensures c.if6.false;
+      size = omega (arith, two.before.before.if-memory-ne-MEMORY_SIZE.false);
+      least = omega (arith, two.if-groups-lt1.false, groups);
+      most = omega (arith, three.if-groups-gt-MOST_GROUPS.false, groups);
+      time = omega (arith, four.if-last_time-gt-LATEST_TIME.false, four.before.last_time.ensures);
+      unused = counts_unused σ _ _ _ groups (compared c).are_unused.ensures (ap not five.if-not-are_unused.false);
+      reserved = reserved_zero σ _ _ c.before.filled.ensures (ap not c.if-not-filled.false);
     }
 
-held : tie.Need-returns-7
-held c = held_decides σ _ _ (passed c.before) c.valid-held.ensures
+held : tie.Need-returns
+held c = held_decides σ _ _ (passed c.before) c.valid_held.ensures
 
-pub valid-spec : {M : Type 1} → statement M
-valid-spec =
+pub valid_spec : {M : Type 1} → statement M
+valid_spec =
     tie.close
-    (tie.spec (λ c. invalid σ _ (λ v. omega (arith, c.if1.true, v.size))) (λ c κs. search rules)
-    (λ c. invalid σ _ (λ v. omega (arith, c.if2.true, c.before.groups.ensures, v.least)))
-    (λ c. invalid σ _ (λ v. omega (arith, c.if3.true, c.before.before.groups.ensures, v.most))) (λ c κs. search rules)
-    (λ c. invalid σ _ (λ v. omega (arith, c.if4.true, c.before.last_time_is.ensures, v.time))) (λ c κs. search rules) unused
-    (λ c κs. search rules) (λ c. reserved_used σ _ _ c.before.filled.ensures c.if6.true)
+    (tie.spec (λ c. invalid σ _ (λ v. omega (arith, c.if-memory-ne-MEMORY_SIZE.true, v.size))) (λ c κs. search rules)
+    (λ c. invalid σ _ (λ v. omega (arith, c.if-groups-lt1.true, c.before.groups-groups.ensures, v.least)))
+    (λ c. invalid σ _ (λ v. omega (arith, c.if-groups-gt-MOST_GROUPS.true, c.before.before.groups-groups.ensures, v.most))) (λ c κs. search rules)
+    (λ c. invalid σ _ (λ v. omega (arith, c.if-last_time-gt-LATEST_TIME.true, c.before.last_time.ensures, v.time))) (λ c κs. search rules) unused
+    (λ c κs. search rules) (λ c. reserved_used σ _ _ c.before.filled.ensures (ap not c.if-not-filled.true))
     (λ c κs. search rules) held)

@@ -8,7 +8,7 @@ use Rattle.disk.proofs.group.read_block.Statement.{statement}
 use Rattle.disk.proofs.group.read_block.Tie as tie
 
 -- where it starts, once the place's first byte is found
-abbrev start : tie.After-block-start → tie.Start
+abbrev start : tie.After-block_start-from → tie.Start
 start c = c.before.before.before
 
 copy-requires : tie.Need-copy-requires
@@ -22,7 +22,7 @@ returns c =
     let started = copied.before.before in
     let ready = (start started).requires in
     let inside = block_start_place σ _ ready.inside in
-    block_copied σ _ _ _ _ _ ready.block_size_is (omega (arith, inside)) started.block_start.ensures copied.copy.ensures
+    block_copied σ _ _ _ _ _ ready.block_size_is (omega (arith, inside)) started.block_start-from.ensures copied.copy.ensures
 
-pub read-block-spec : {M : Type 1} → statement M
-read-block-spec = tie.close (tie.spec (λ c κs. search rules) copy-requires (λ c. search rules) returns)
+pub read_block_spec : {M : Type 1} → statement M
+read_block_spec = tie.close (tie.spec (λ c κs. search rules) copy-requires (λ c. search rules) returns)

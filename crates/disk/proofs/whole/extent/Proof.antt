@@ -7,10 +7,10 @@ use Rattle.disk.proofs.whole.extent.Statement.{statement}
 use Rattle.disk.proofs.whole.extent.Tie as tie
 
 returns : tie.Need-returns
-returns c = extent_cut σ _ _ _ c.before.group-start.ensures
+returns c = extent_cut σ _ _ _ c.before.group_start-from.ensures
 
-pub extent-spec : {M : Type 1} → statement M
-extent-spec =
+pub extent_spec : {M : Type 1} → statement M
+extent_spec =
     tie.close
-    (tie.spec (λ c κs. search rules) (λ c. omega (arith, extent_end σ _ _ _ c.before.before.requires c.group-start.ensures))
-    (λ c. search rules) (λ c. search rules) (λ c. omega (arith, extent_end σ _ _ _ c.before.before.requires c.group-start.ensures)) returns)
+    (tie.spec (λ c κs. search rules) (λ c. omega (arith, extent_end σ _ _ _ c.before.before.requires c.group_start-from.ensures))
+    (λ c. search rules) (λ c. search rules) (λ c. omega (arith, extent_end σ _ _ _ c.before.before.requires c.group_start-from.ensures)) returns)

@@ -7,14 +7,14 @@ use Rattle.disk.proofs.whole.lend_block.Statement.{statement}
 use Rattle.disk.proofs.whole.lend_block.Tie as tie
 
 -- where it starts, once the group is found
-abbrev start : tie.After-group-of → tie.Start
+abbrev start : tie.After-group_of → tie.Start
 start c = c.before.before
 
-lend-block-requires : tie.Need-lend-block-requires
+lend-block-requires : tie.Need-lend_block-requires
 lend-block-requires c κs =
     let cut = c.before in
     let found = cut.before in (
-      cut_length σ _ _ _ _ (start found).requires found.Group-of.ensures cut.extent.ensures,
+      cut_length σ _ _ _ _ (start found).requires found.group_of.ensures cut.extent-lent.ensures,
       place_of_in σ _ _ c.place_of.ensures,
     )
 
@@ -24,11 +24,11 @@ returns c =
     let cut = placed.before in
     let found = cut.before in
     let place = placed.place_of.ensures in
-    block_read σ _ _ _ _ (start found).requires found.Group-of.ensures cut.extent.ensures _ _ _ (place_of_in σ _ _ place)
-    (physical_at σ _ _ place) c.lend-block.ensures
+    block_read σ _ _ _ _ (start found).requires found.group_of.ensures cut.extent-lent.ensures _ _ _ (place_of_in σ _ _ place)
+    (physical_at σ _ _ place) c.lend_block.ensures
 
-pub lend-block-spec : {M : Type 1} → statement M
-lend-block-spec =
+pub lend_block_spec : {M : Type 1} → statement M
+lend_block_spec =
     tie.close
-    (tie.spec (λ c κs. search rules) (λ c κs. has_computed σ _ _ _ (start c).requires c.Group-of.ensures) (λ c κs. search rules)
+    (tie.spec (λ c κs. search rules) (λ c κs. has_computed σ _ _ _ (start c).requires c.group_of.ensures) (λ c κs. search rules)
     lend-block-requires returns)

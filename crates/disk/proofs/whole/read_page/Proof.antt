@@ -14,7 +14,7 @@ use Rattle.disk.proofs.whole.read_page.Tie as tie
 abbrev start : tie.After-extent → tie.Start
 start c = c.before.before.before
 
-read-block-requires : tie.Need-read-block-requires
+read-block-requires : tie.Need-read_block-requires
 read-block-requires c κs =
     let cut = c.before in
     let ready = (start cut).requires in
@@ -29,7 +29,7 @@ returns c =
     let called = c.before.before in
     let cut = called.before.before in
     block_read σ _ _ _ _ (start cut).requires.0 refl cut.extent.ensures _ (page_place present) _ (omega arith) (page_block_place σ _)
-    called.read-block.ensures
+    called.read_block.ensures
 
-pub read-page-spec : {M : Type 1} → statement M
-read-page-spec = tie.close (tie.spec (λ c κs. search rules) read-block-requires (λ c. search rules) returns)
+pub read_page_spec : {M : Type 1} → statement M
+read_page_spec = tie.close (tie.spec (λ c κs. search rules) read-block-requires (λ c. search rules) returns)

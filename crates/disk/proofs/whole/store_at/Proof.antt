@@ -12,23 +12,23 @@ use Rattle.disk.proofs.whole.store_at.Statement.{statement}
 use Rattle.disk.proofs.whole.store_at.Tie as tie
 
 -- where it starts, once the extent's start is found
-abbrev start : tie.After-group-start → tie.Start
+abbrev start : tie.After-group_start-from → tie.Start
 start c = c.before.before.before
 
 -- the extent's end on the disk
-ends : (c : tie.After-group-start) → c.group-start.result + group_size present ≤ length (start c).args.disk.now
-ends c = extent_end σ _ _ _ (start c).requires.group c.group-start.ensures
+ends : (c : tie.After-group_start-from) → c.group_start-from.result + group_size present ≤ length (start c).args.disk.now
+ends c = extent_end σ _ _ _ (start c).requires.group c.group_start-from.ensures
 
 returns : tie.Need-returns
 returns c =
     let called = c.before.before in
     let started = called.before.before in
     let ready = (start started).requires in
-    block_stored σ _ _ _ _ _ _ _ ready.group ready.inside started.group-start.ensures refl ready.block_size_is
-    called.store-block.ensures
+    block_stored σ _ _ _ _ _ _ _ ready.group ready.inside started.group_start-from.ensures refl ready.block_size_is
+    called.store_block.ensures
 
-pub store-at-spec : {M : Type 1} → statement M
-store-at-spec =
+pub store_at_spec : {M : Type 1} → statement M
+store_at_spec =
     tie.close
     (tie.spec (λ c κs. search rules) (λ c. omega (arith, ends c)) (λ c. search rules) (λ c. search rules) (λ c. omega (arith, ends c))
     (λ c κs. search rules) (λ c. search rules) returns)

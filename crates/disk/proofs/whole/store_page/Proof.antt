@@ -11,10 +11,10 @@ use Rattle.disk.proofs.whole.store_page.Statement.{statement}
 use Rattle.disk.proofs.whole.store_page.Tie as tie
 
 -- where it starts, once the page is to be stored
-abbrev start : tie.After-store-at-arg → tie.Start
+abbrev start : tie.After-store_at-arg-1 → tie.Start
 start c = c.before.before.before
 
-store-at-requires : tie.Need-store-at-requires
+store-at-requires : tie.Need-store_at-requires
 store-at-requires c κs =
     let ready = (start c).requires in
     record { group = ready.0; inside = omega arith; block_size_is = ready.1 }
@@ -25,5 +25,5 @@ returns c =
     let x = (start called.before).args in
     called.store_at.ensures ∙ ap (λ (p : ℕ). with_block present x.disk.now p x.page.now) (sym (page_block_place σ x.group))
 
-pub store-page-spec : {M : Type 1} → statement M
-store-page-spec = tie.close (tie.spec store-at-requires (λ c. search rules) returns)
+pub store_page_spec : {M : Type 1} → statement M
+store_page_spec = tie.close (tie.spec store-at-requires (λ c. search rules) returns)
