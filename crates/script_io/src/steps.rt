@@ -41,6 +41,7 @@ pub(crate) fn step(
 }
 
 // Whether the run has ended by a bad line.
+#[tactic(auto, unfolding(crate::specs::Turn::has_ended))]
 fn has_ended(reader: Reader) -> bool
     ensures { result ≡ has_ended reader }
 {
@@ -53,6 +54,7 @@ fn has_ended(reader: Reader) -> bool
 }
 
 // Whether another turn follows.
+#[tactic(auto, unfolding(crate::specs::Turn::goes_on, crate::specs::Turn::is_end))]
 pub(crate) fn goes_on(turn: Turn) -> bool
     ensures { result ≡ goes_on turn }
 {
