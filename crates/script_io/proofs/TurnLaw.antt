@@ -45,22 +45,21 @@ take_clamped (suc n) [] = ap (λ (m : ℕ). take m []) (min-zero (suc n))
 take_clamped (suc n) (b ∷ piece) = ap (λ (m : ℕ). take m (b ∷ piece)) (suc-min-suc n (length piece)) ∙ ap (λ (l : List ℕ). b ∷ l) (take_clamped n piece)
 
 module _ (r : Reader) (s : Box) (piece out : List ℕ) where
-  pub stepped_failed : (z : ℤ) → SFits w64 z → is_below z ≡ true → (p : Progress) → p.reader ≡ r → p.end ≡ 0
-      → (fed_of false p s out ≡ stepped r s z piece out) × (p.end ≤ length out)
+  pub stepped_failed : (z : ℤ) → SFits w64 z → is_below z ≡ true → stepped r s z piece out ≡ fed_of false (record { reader = r; end = 0 }) s out
   unfolding stepped
-  stepped_failed (pos n) h t p e f = absurd (omega (arith, ltb-true n 0 (rw (below (pos n) h) at t)))
-  stepped_failed (negsuc n) h t p e f =
-      (ap (λ (x : Placed). record { taken = false; placed = x }) (placed_none p r s out 0 e f), omega arith)
+  stepped_failed (pos n) h t = absurd (omega (arith, ltb-true n 0 (rw (below (pos n) h) at t)))
+  stepped_failed (negsuc n) h t =
+      ap (λ (x : Placed). record { taken = false; placed = x }) (sym (placed_none (record { reader = r; end = 0 }) r s out 0 refl refl))
 
-  pub stepped_end : (z : ℤ) → SFits w64 z → of_z w64 z ≡ 0 → finished r s out ≡ stepped r s z piece out
+  pub stepped_end : (z : ℤ) → SFits w64 z → of_z w64 z ≡ 0 → stepped r s z piece out ≡ finished r s out
   unfolding stepped
-  stepped_end z h e = ap (λ (x : ℤ). stepped r s x piece out) (sym (zero_read z h e))
+  stepped_end z h e = ap (λ (x : ℤ). stepped r s x piece out) (zero_read z h e)
 
-  pub stepped_bytes : (z : ℤ) → SFits w64 z → is_below z ≡ false → (of_z w64 z ≡ 0 → ⊥) → (n : ℕ) → n ≡ clamp_len (loaded z) (length piece)
-      → fed r s (take n piece) out ≡ stepped r s z piece out
+  pub stepped_bytes : (z : ℤ) → SFits w64 z → is_below z ≡ false → (of_z w64 z ≡ 0 → ⊥)
+      → stepped r s z piece out ≡ fed r s (take (clamp_len (loaded z) (length piece)) piece) out
   unfolding stepped
-  stepped_bytes (pos zero) h t u n e = absurd (u refl)
-  stepped_bytes (pos (suc k)) h t u n e =
-      let all = e ∙ ap (λ (x : ℤ). clamp_len x (length piece)) (to_z-of_z w64 (pos (suc k)) h) in
-      ap (λ (x : List ℕ). fed r s x out) (ap (λ (m : ℕ). take m piece) all ∙ take_clamped (suc k) piece)
-  stepped_bytes (negsuc k) h t u n e = absurd (false≢true (sym t ∙ below (negsuc k) h))
+  stepped_bytes (pos zero) h t u = absurd (u refl)
+  stepped_bytes (pos (suc k)) h t u =
+      let all = ap (λ (x : ℤ). clamp_len x (length piece)) (to_z-of_z w64 (pos (suc k)) h) in
+      ap (λ (x : List ℕ). fed r s x out) (sym (ap (λ (m : ℕ). take m piece) all ∙ take_clamped (suc k) piece))
+  stepped_bytes (negsuc k) h t u = absurd (false≢true (sym t ∙ below (negsuc k) h))
