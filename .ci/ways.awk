@@ -9,7 +9,7 @@
 # In the crate, memory and disk have these names from its entry to the last function that gets them. The name stands as a parameter, as a
 # whole argument, or in `.len()`, and nowhere else: no byte or part is taken, and nothing else stands for either. A function of the
 # crate gets it as a parameter of the same name, and nothing else as such a parameter; of other crates, the receivers alone get it.
-# Comments, contracts (from ⌜ to ⌝) and what is used in these (ghost) are left out.
+# The code is what .ci/code.awk makes of a line.
 
 function listed(name, names) { return index(" " names " ", " " name " ") > 0 }
 
@@ -125,23 +125,13 @@ function look_at_use(at,   from) { # a name of another crate's stays that crate'
 }
 
 FNR == 1 {
-    contract = 0
     here = index(FILENAME, "crates/" crate "/src/") > 0
     files += here
 }
 
 {
-    text = $0
-    if (here && text ~ /\/\*/) hidden = 1
-    sub(/\/\/.*/, "", text)
-    sub(/^ *ghost [^;]*;/, "", text)
-    while (text != "") {
-        mark = contract ? "⌝" : "⌜"
-        end = index(text, mark)
-        if (!contract) take(end ? substr(text, 1, end - 1) : text)
-        text = end ? substr(text, end + length(mark)) : ""
-        if (end) contract = !contract
-    }
+    if (here && $0 ~ /\/\*/) hidden = 1
+    take(code_of($0))
 }
 
 END {

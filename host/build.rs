@@ -1,4 +1,4 @@
-//! Links the archive that `rt staticlib sockjade` writes.
+//! Links the archive that `.ci/archive` writes.
 use std::env;
 use std::path::PathBuf;
 

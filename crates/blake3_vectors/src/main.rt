@@ -2,8 +2,9 @@
 // a line is the length, a space and the digest. Byte i of the input is i mod 251, as in the published vectors. The file
 // `stdout` beside src/ was written by b3sum: the script `expected` beside it writes it again.
 #![tactic(auto)]
-use libc::STDOUT_FILENO;
+
 use sockjade::sockjade_digest;
+use std::io::Result;
 
 const COUNT: usize = 35;
 
@@ -20,38 +21,37 @@ fn fill(input: &mut [u8]) {
     }
 }
 
-fn print_bytes(bytes: &[u8]) {
+fn print_bytes(rt: &impl Print, bytes: &[u8]) -> Result<()> {
     let mut i = 0;
     while i < bytes.len() {
-        io::print_hex(STDOUT_FILENO, bytes[i] as u64, 2);
+        print!(rt; "{:02x}", bytes[i])?;
         i += 1;
     }
+    Ok(())
 }
 
 // A length that the input does not have, or a refusal, prints another line than the digest's.
-fn print_vector(input: &[u8], n: usize) {
+fn print_vector(rt: &impl Print, input: &[u8], n: usize) -> Result<()> {
     if input.len() < n {
-        io::write_all(STDOUT_FILENO, b"no such length\n");
-        return;
+        return println!(rt; "no such length");
     }
     let mut out = [0u8; 32];
     let answer = sockjade_digest(&input[..n], &mut out);
     if answer != 0 {
-        io::write_all(STDOUT_FILENO, b"refused\n");
-        return;
+        return println!(rt; "refused");
     }
-    io::print_decimal(STDOUT_FILENO, n as u64);
-    io::write_all(STDOUT_FILENO, b" ");
-    print_bytes(&out);
-    io::write_all(STDOUT_FILENO, b"\n");
+    print!(rt; "{n} ")?;
+    print_bytes(rt, &out)?;
+    println!(rt;)
 }
 
-fn main() {
+fn main(rt: HostRuntime) -> Result<()> {
     let mut input = io::large_buffer();
     fill(&mut input);
     let mut i = 0;
     while i < COUNT {
-        print_vector(&input, LENGTHS[i]);
+        print_vector(&rt, &input, LENGTHS[i])?;
         i += 1;
     }
+    Ok(())
 }

@@ -1,7 +1,8 @@
-// The script program's input and output: a script is read from a descriptor piece by piece, and what the pieces print is written to
+// The script program's input and output: a script is read from a reader piece by piece, and what the pieces print is written to
 // standard output. No contract can say what is read or written; steps has what is done with it, and the claim TurnsPrinted what the turns
 // then write.
 #![tactic(auto)]
+
 mod steps;
 
 ghost use Rattle.std.specs.Prelude.{◌≡◌};
@@ -10,10 +11,10 @@ ghost use Rattle.script_printout.specs.Reader.{fed_of};
 ghost use Rattle.script_io.specs.Turn.{stepped};
 
 use addressing::GROUP_SIZE;
-use libc::{STDERR_FILENO, STDOUT_FILENO};
 use memory::layout::MEMORY_SIZE;
 use script::Fed;
 use script_printout::Reader;
+use std::io::Read;
 
 // The buffer for what is printed, `io::large_buffer`, has space for a line at each byte of a piece.
 const PIECE_SIZE: usize = 512;
@@ -27,23 +28,32 @@ pub struct Turn {
 }
 
 // Says on standard error what failed in a turn, if anything did.
-fn say_failure(turn: Turn) {
+fn say_failure(rt: &impl Eprint, turn: Turn) {
     if turn.got < 0 {
-        io::write_all(STDERR_FILENO, b"cannot read the script\n");
+        let _ = rt.eprintln("cannot read the script");
         return;
     }
     if !turn.fed.taken {
-        io::write_all(STDERR_FILENO, b"the buffer for the printout is too small\n");
+        let _ = rt.eprintln("the buffer for the printout is too small");
         return;
     }
     if !turn.written {
-        io::write_all(STDERR_FILENO, b"cannot write the printout\n");
+        let _ = rt.eprintln("cannot write the printout");
+    }
+}
+
+// How many bytes a read puts at the start of piece, or a number below 0 where it fails.
+fn read_bytes<R: Read>(input: &mut R, piece: &mut [u8]) -> isize {
+    match input.read(piece) {
+        Ok(n) => n as isize,
+        Err(_) => -1,
     }
 }
 
 // Reads one piece and writes what it prints. Whatever the read answers and puts into piece, the rest is the step on that.
-fn read_piece(
-    descriptor: i32,
+fn read_piece<R: Read>(
+    rt: &(impl Print + Eprint),
+    input: &mut R,
     reader: Reader,
     memory: &mut [u8; MEMORY_SIZE],
     disk: &mut [u8; GROUP_SIZE],
@@ -53,22 +63,23 @@ fn read_piece(
     ensures { fed_of result.fed.taken result.fed.progress (box_at memory.new disk.new) out.new
         ≡ stepped reader (box_at memory.old disk.old) result.got piece.new out.old }
 {
-    let got = libc::read(descriptor, piece);
+    let got = read_bytes(input, piece);
     let fed = steps::step(reader, memory, disk, got, piece, out);
     let end = fed.progress.end;
     let turn = Turn {
         got: got,
         fed: fed,
-        written: io::write_all(STDOUT_FILENO, &out[..end]),
+        written: rt.write_all(&out[..end]).is_ok(),
     };
-    say_failure(turn);
+    say_failure(rt, turn);
     turn
 }
 
 // Turn after turn, each with the reader that the one before left. What is proved of it is that it is safe and ends: a proved loop has to, so
 // it counts its turns down, from a number that no run uses up.
-fn read_pieces(
-    descriptor: i32,
+fn read_pieces<R: Read>(
+    rt: &(impl Print + Eprint),
+    input: &mut R,
     memory: &mut [u8; MEMORY_SIZE],
     disk: &mut [u8; GROUP_SIZE],
     piece: &mut [u8],
@@ -78,7 +89,7 @@ fn read_pieces(
     let mut going = true;
     let mut turns = u64::MAX;
     while turns > 0 && going {
-        let turn = read_piece(descriptor, reader, memory, disk, piece, out);
+        let turn = read_piece(rt, input, reader, memory, disk, piece, out);
         reader = turn.fed.progress.reader;
         going = steps::goes_on(turn);
         turns -= 1;
@@ -86,10 +97,10 @@ fn read_pieces(
 }
 
 // Reads a script to its end, or to its first bad line, and writes its printout.
-pub fn run(descriptor: i32) {
+pub fn run<R: Read>(rt: &(impl Print + Eprint), input: &mut R) {
     let mut memory = [0u8; MEMORY_SIZE];
     let mut disk = [0u8; GROUP_SIZE];
     let mut piece = [0u8; PIECE_SIZE];
     let mut out = io::large_buffer();
-    read_pieces(descriptor, &mut memory, &mut disk, &mut piece, &mut out);
+    read_pieces(rt, input, &mut memory, &mut disk, &mut piece, &mut out);
 }

@@ -12,6 +12,7 @@ use script_printout::{Progress, Reader, Stage};
 
 // The step on what a read answered: got bytes stand at the start of piece; at 0 the script is at its end. A read that fails, below 0, is not
 // the end: the line that it cuts is not run.
+#[tactic(auto, using(crate::proofs::TurnLaw::stepped_failed, crate::proofs::TurnLaw::stepped_end, crate::proofs::TurnLaw::stepped_bytes))]
 pub(crate) fn step(
     reader: Reader,
     memory: &mut [u8; MEMORY_SIZE],
@@ -41,6 +42,7 @@ pub(crate) fn step(
 }
 
 // Whether the run has ended by a bad line.
+#[tactic(auto, unfolding(crate::specs::Turn::has_ended))]
 fn has_ended(reader: Reader) -> bool
     ensures { result ≡ has_ended reader }
 {
@@ -53,6 +55,7 @@ fn has_ended(reader: Reader) -> bool
 }
 
 // Whether another turn follows.
+#[tactic(auto, unfolding(crate::specs::Turn::goes_on, crate::specs::Turn::is_end))]
 pub(crate) fn goes_on(turn: Turn) -> bool
     ensures { result ≡ goes_on turn }
 {

@@ -1,24 +1,26 @@
 // The script program on the tests' scripts, the files of data/, one after the other.
 #![tactic(auto)]
-fn run_script(name: &[u8]) {
-    let descriptor = os::open_read(name);
-    if descriptor < 0 {
-        os::fail(name);
-        return;
+
+use std::fs::File;
+
+fn run_script(rt: &HostRuntime, name: &str) {
+    match File::open(rt, name) {
+        Ok(mut file) => script_io::run(rt, &mut file),
+        Err(error) => {
+            let _ = eprintln!(rt; "{name}: {error}");
+        }
     }
-    script_io::run(descriptor);
-    libc::close(descriptor);
 }
 
-fn main() {
-    run_script(b"bad_line");
-    run_script(b"edges");
-    run_script(b"empty");
-    run_script(b"kinds");
-    run_script(b"last_line");
-    run_script(b"refusals");
-    run_script(b"restart");
-    run_script(b"updates_63");
-    run_script(b"updates_64");
-    run_script(b"updates_apart");
+fn main(rt: HostRuntime) {
+    run_script(&rt, "bad_line");
+    run_script(&rt, "edges");
+    run_script(&rt, "empty");
+    run_script(&rt, "kinds");
+    run_script(&rt, "last_line");
+    run_script(&rt, "refusals");
+    run_script(&rt, "restart");
+    run_script(&rt, "updates_63");
+    run_script(&rt, "updates_64");
+    run_script(&rt, "updates_apart");
 }

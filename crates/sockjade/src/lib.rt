@@ -1,4 +1,4 @@
-// The functions that a C service calls. A slice crosses as a pointer and a length. No call has a precondition, and each
+// The functions that a C service calls, by the exports of sockjade_c. No call has a precondition, and each
 // contract fixes the number answered and every byte of each buffer: the digest's by specs/, the version
 // store's by the definitions of versions_bytes, recovery's by those of recovery_machine, the migration's by those of migration_machine, the
 // others by those of machine.
@@ -20,8 +20,7 @@ const LONGEST_INPUT: usize = 65536;
 
 // The BLAKE3 digest of the input: 0 and the digest in out; 6 and no byte changed where the input is longer than 65,536
 // bytes or out is not 32.
-#[unsafe(no_mangle)]
-pub extern "C" fn sockjade_digest(input: &[u8], out: &mut [u8]) -> u32
+pub fn sockjade_digest(input: &[u8], out: &mut [u8]) -> u32
     ensures { digest_outcome result out.new ≡ digest_call input.now out.old }
 {
     if input.len() > LONGEST_INPUT {
@@ -35,8 +34,7 @@ pub extern "C" fn sockjade_digest(input: &[u8], out: &mut [u8]) -> u32
 }
 
 // One command: its number, with memory, disk and answer as document 01 has it; where the number is not 0, no byte changed.
-#[unsafe(no_mangle)]
-pub extern "C" fn sockjade_command(
+pub fn sockjade_command(
     memory: &mut [u8],
     disk: &mut [u8],
     kind: u32,
@@ -65,8 +63,7 @@ fn two_numbers(first: u32, second: u32) -> u64
 
 // The states of a list of blocks: its number, with memory and answer as document 02 has it, and in the high half the pages read; where
 // the number is not 0, no byte changed, and 0 pages.
-#[unsafe(no_mangle)]
-pub extern "C" fn sockjade_states(
+pub fn sockjade_states(
     memory: &mut [u8],
     disk: &[u8],
     blocks: &[u8],
@@ -81,8 +78,7 @@ pub extern "C" fn sockjade_states(
 }
 
 // Starts a version store with a lock: its number, with the state as document 02 has it; where the number is not 0, no byte changed.
-#[unsafe(no_mangle)]
-pub extern "C" fn sockjade_versions_start(state: &mut [u8], lock: u32) -> u32
+pub fn sockjade_versions_start(state: &mut [u8], lock: u32) -> u32
     ensures { started_at result state.new ≡ start_bytes present first_block state.old lock }
 {
     versions::start(state, lock)
@@ -90,8 +86,7 @@ pub extern "C" fn sockjade_versions_start(state: &mut [u8], lock: u32) -> u32
 
 // Stores a version of a part: its number, with state, memory and disk as document 02 has it, and in the high half the block; where the
 // number is not 0, no byte changed, and block 0.
-#[unsafe(no_mangle)]
-pub extern "C" fn sockjade_versions_put(
+pub fn sockjade_versions_put(
     state: &mut [u8],
     memory: &mut [u8],
     disk: &mut [u8],
@@ -109,8 +104,7 @@ pub extern "C" fn sockjade_versions_put(
 
 // Stores the records of a version store: its number, with state, memory and disk as document 02 has it; where the number is not 0, no
 // byte changed.
-#[unsafe(no_mangle)]
-pub extern "C" fn sockjade_versions_flush(
+pub fn sockjade_versions_flush(
     state: &mut [u8],
     memory: &mut [u8],
     disk: &mut [u8],
@@ -123,8 +117,7 @@ pub extern "C" fn sockjade_versions_flush(
 }
 
 // The block of a part's newest version: its number, and in the high half the block, or FF FF FF FF for none.
-#[unsafe(no_mangle)]
-pub extern "C" fn sockjade_versions_block(state: &[u8], part: u32) -> u64
+pub fn sockjade_versions_block(state: &[u8], part: u32) -> u64
     ensures { located_of (low_half result) (high_half result) ≡ lookup present state.now part }
 {
     let answered = versions::block(state, part);
@@ -133,8 +126,7 @@ pub extern "C" fn sockjade_versions_block(state: &[u8], part: u32) -> u64
 
 // The parts that the log on the disk has by a point in time, as a box shows them at another: its number, with the result as document 02
 // has it; where the number is not 0, no byte changed.
-#[unsafe(no_mangle)]
-pub extern "C" fn sockjade_recover(
+pub fn sockjade_recover(
     memory: &[u8],
     disk: &[u8],
     point: u32,
@@ -149,8 +141,7 @@ pub extern "C" fn sockjade_recover(
 }
 
 // Formats a box: 0, with memory and disk as document 01 has it; where the number is not 0, no byte changed.
-#[unsafe(no_mangle)]
-pub extern "C" fn sockjade_format(
+pub fn sockjade_format(
     memory: &mut [u8],
     disk: &mut [u8],
     groups: u32,
@@ -164,8 +155,7 @@ pub extern "C" fn sockjade_format(
 
 // Turns the memory of an old box, of 16 groups at most, into that of a present one: 0, with the memory as document 02 has it; where the
 // number is not 0, no byte changed.
-#[unsafe(no_mangle)]
-pub extern "C" fn sockjade_migrate(old: &[u8], memory: &mut [u8]) -> u32
+pub fn sockjade_migrate(old: &[u8], memory: &mut [u8]) -> u32
     ensures { migration_at result memory.new ≡ migrate base present.most_groups old.now memory.old }
 {
     migration::migrate(old, memory)

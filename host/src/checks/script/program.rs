@@ -24,11 +24,11 @@ pub struct Ran {
 
 impl Program {
     pub fn find() -> Result<Program, String> {
-        let path = Path::new(env!("CARGO_MANIFEST_DIR")).join("../target/bin/sockjade_script");
+        let path = Path::new(env!("CARGO_MANIFEST_DIR")).join("../crates/sockjade_script/out/sockjade_script");
         if path.is_file() {
             return Ok(Program(path));
         }
-        Err(String::from("target/bin/sockjade_script is missing: run `rt check sockjade_script` first"))
+        Err(String::from("crates/sockjade_script/out/sockjade_script is missing: run `rt run` in crates/sockjade_script first"))
     }
 
     pub fn command(&self) -> Command {
