@@ -71,16 +71,16 @@ module _ (γ : Geometry) where
   module _ (ρ : Range) where
     -- a valid state's bytes are a store; any others get 13 or 1
     unfoldable pub put_bytes : List ℕ → Box → ℕ → ℕ → List ℕ → Called
-    put_bytes state s part (λ x. x.now) content =
+    put_bytes state s part now content =
         elim (is_valid γ state) [
-          | true ↦ handed state (put γ ρ (versions_in state) s part (λ x. x.now) content)
+          | true ↦ handed state (put γ ρ (versions_in state) s part now content)
           | false ↦ refused_by (first_no (Put 13 (leb part last_part) ∷ Put 1 false ∷ [])) state s
         ]
 
     unfoldable pub flush_bytes : List ℕ → Box → ℕ → Called
-    flush_bytes state s (λ x. x.now) =
+    flush_bytes state s now =
         elim (is_valid γ state) [
-          | true ↦ handed state (flush γ ρ (versions_in state) s (λ x. x.now))
+          | true ↦ handed state (flush γ ρ (versions_in state) s now)
           | false ↦ refused_by 1 state s
         ]
 
