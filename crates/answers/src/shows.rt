@@ -17,7 +17,7 @@ const IDENTIFY_SIZE: usize = 4;
 
 // Kind 1: a block. It goes by a buffer: the compiler does not know that disk and answer are apart, and makes one move of the two copies.
 pub fn read(memory: &mut [u8], disk: &[u8], block: u32, time: u32, answer: &mut [u8])
-    requires { BlockReady present (box_at memory disk) block answer.old }
+    requires { BlockReady present (box_at memory.old disk.now) block answer.old }
     ensures { outcome_at 0 memory.new disk.now answer.new
         ≡ accepted present (λ s. E.read present s block) (box_at memory.old disk.now) time }
 {
@@ -43,7 +43,7 @@ fn answer_entry(answer: &mut [u8], e: Entry, time: u32)
 
 // Kind 2: a block's entry.
 pub fn show_entry(memory: &mut [u8], disk: &[u8], block: u32, time: u32, answer: &mut [u8])
-    requires { BlockReady present (box_at memory disk) block answer.old }
+    requires { BlockReady present (box_at memory.old disk.now) block answer.old }
     ensures { outcome_at 0 memory.new disk.now answer.new
         ≡ accepted present (λ s. show_entry present s block time) (box_at memory.old disk.now) time }
 {
@@ -54,7 +54,7 @@ pub fn show_entry(memory: &mut [u8], disk: &[u8], block: u32, time: u32, answer:
 
 // Kind 3: the current page of a group and its tag.
 pub fn show_page(memory: &mut [u8], disk: &[u8], group: u32, time: u32, answer: &mut [u8])
-    requires { GroupReady present (box_at memory disk) group answer.old }
+    requires { GroupReady present (box_at memory.old disk.now) group answer.old }
     ensures { outcome_at 0 memory.new disk.now answer.new
         ≡ accepted present (λ s. show_page present s group) (box_at memory.old disk.now) time }
 {

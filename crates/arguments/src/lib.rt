@@ -2,6 +2,7 @@
 // for each, and all of them in order; those that are put to any call on a box, in order; and the entry that an update brings. The
 // contracts cite the definitions of machine, and of specs/ the list of the five.
 #![tactic(auto)]
+
 pub mod box_questions;
 pub mod kinds;
 

@@ -47,7 +47,7 @@ fn answer_groups(
     groups: usize,
     answer: &mut [u8],
 ) -> u32
-    requires { GroupsReady present (box_at memory disk) blocks.now first.now next.now named.now groups answer.old }
+    requires { GroupsReady present (box_at memory.now disk.now) blocks.now first.now next.now named.now groups answer.old }
     ensures { (result ≡ groups)
         × (answer.new ≡ shown_states present (box_at memory.now disk.now) time (numbers blocks.now)) }
 {
@@ -72,7 +72,7 @@ fn answer_groups(
 
 // Fills the answer, and answers the pages read.
 pub(crate) fn fill(memory: &[u8], disk: &[u8], blocks: &[u8], time: u32, answer: &mut [u8]) -> u32
-    requires { FillReady present (box_at memory disk) blocks.now answer.old }
+    requires { FillReady present (box_at memory.now disk.now) blocks.now answer.old }
     ensures { (result ≡ pages_read present (numbers blocks.now))
         × (answer.new ≡ shown_states present (box_at memory.now disk.now) time (numbers blocks.now)) }
 {

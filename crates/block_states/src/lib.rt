@@ -2,6 +2,7 @@
 // The contract of `states`, which has no precondition, fixes its two numbers and every byte of memory and answer by the definitions
 // of machine.
 #![tactic(auto)]
+
 mod fill;
 mod links;
 

@@ -2,6 +2,7 @@
 // fixes the number answered and every byte of memory, disk and answer by the definitions of machine. The functions below it get the
 // kind in the place of a number and a value; their contracts cite specs/.
 #![tactic(auto)]
+
 ghost use Rattle.std.specs.Prelude.{◌≡◌};
 ghost use Rattle.lockpage.specs.Geometry.{present};
 ghost use Rattle.machine.specs.Question.{first_no};
@@ -26,7 +27,7 @@ pub fn update(
     proof: &[u8],
     answer: &mut [u8],
 ) -> u32
-    requires { first_no (first_questions present (Kind.Change u) (box_at memory disk) (command_at 0 block time 0 content proof answer)) ≡ 0 }
+    requires { first_no (first_questions present (Kind.Change u) (box_at memory.old disk.old) (command_at 0 block time 0 content.now proof.now answer.old)) ≡ 0 }
     ensures { ComesTo present (Kind.Change u) (box_at memory.old disk.old)
         (command_at 0 block time 0 content.now proof.now answer.old) (outcome_at result memory.new disk.new answer.new) }
 {
@@ -48,7 +49,7 @@ fn new_salt(
     proof: &[u8],
     answer: &mut [u8],
 ) -> u32
-    requires { first_no (first_questions present Kind.NewSalt (box_at memory disk) (command_at 0 block time 0 content proof answer)) ≡ 0 }
+    requires { first_no (first_questions present Kind.NewSalt (box_at memory.old disk.old) (command_at 0 block time 0 content.now proof.now answer.old)) ≡ 0 }
     ensures { ComesTo present Kind.NewSalt (box_at memory.old disk.old)
         (command_at 0 block time 0 content.now proof.now answer.old) (outcome_at result memory.new disk.new answer.new) }
 {
@@ -71,7 +72,7 @@ fn carry_out(
     proof: &[u8],
     answer: &mut [u8],
 ) -> u32
-    requires { first_no (first_questions present k (box_at memory disk) (command_at 0 block time 0 content proof answer)) ≡ 0 }
+    requires { first_no (first_questions present k (box_at memory.old disk.old) (command_at 0 block time 0 content.now proof.now answer.old)) ≡ 0 }
     ensures { ComesTo present k (box_at memory.old disk.old)
         (command_at 0 block time 0 content.now proof.now answer.old) (outcome_at result memory.new disk.new answer.new) }
 {

@@ -1,6 +1,7 @@
 // The current page of a group, and a block's entry on it. The contracts cite the definitions of machine, and specs/ what is taken for
 // granted.
 #![tactic(auto)]
+
 ghost use Rattle.std.specs.Prelude.{◌≡◌, length};
 ghost use Rattle.lockpage.specs.Geometry.{present};
 ghost use Rattle.addressing.specs.Map.{group_of};
@@ -14,7 +15,7 @@ use lockpage::Entry;
 
 // Copies the current page of a group into out. It answers 1, the number of pages read.
 pub fn fetch(memory: &[u8], disk: &[u8], group: u32, out: &mut [u8]) -> u32
-    requires { CurrentReady present (box_at memory disk) group out.old }
+    requires { CurrentReady present (box_at memory.now disk.now) group out.old }
     ensures { (result ≡ 1) × (out.new ≡ current_page present (box_at memory.now disk.now) group) }
 {
     if memory::held(memory) == group {

@@ -49,7 +49,7 @@ pub fn change(
     proof: &[u8],
     answer: &mut [u8],
 )
-    requires { ChangeReady present u (box_at memory disk) (command_at 0 block time 0 content proof answer) }
+    requires { ChangeReady present u (box_at memory.old disk.old) (command_at 0 block time 0 content.now proof.now answer.old) }
     ensures { outcome_at 0 memory.new disk.new answer.new
         ≡ accepted present (λ s. E.change present u s (command_at 0 block time 0 content.now proof.now answer.old))
         (box_at memory.old disk.old) time }

@@ -13,7 +13,7 @@ use answers::tail;
 
 // Kind 7.
 pub fn sync(memory: &mut [u8], disk: &mut [u8], time: u32, answer: &mut [u8])
-    requires { UpkeepReady present (box_at memory disk) time answer.old }
+    requires { UpkeepReady present (box_at memory.old disk.old) time answer.old }
     ensures { outcome_at 0 memory.new disk.new answer.new
         ≡ accepted present (E.sync present) (box_at memory.old disk.old) time }
 {
@@ -35,7 +35,7 @@ pub fn restart(memory: &mut [u8], time: u32, answer: &mut [u8])
 
 // Kind 9: a sync first.
 pub fn new_salt(memory: &mut [u8], disk: &mut [u8], time: u32, content: &[u8], answer: &mut [u8])
-    requires { UpkeepReady present (box_at memory disk) time answer.old × (length content.now ≡ salt_size) }
+    requires { UpkeepReady present (box_at memory.old disk.old) time answer.old × (length content.now ≡ salt_size) }
     ensures { outcome_at 0 memory.new disk.new answer.new
         ≡ accepted present (λ s. new_salt present s content.now) (box_at memory.old disk.old) time }
 {

@@ -1,6 +1,7 @@
 // Recovery: the log is walked once, from the first block on, and each part's last record that counts is in the result. The contract of
 // `recover`, which has no precondition, fixes its number and every byte of the result by the definitions of recovery_machine.
 #![tactic(auto)]
+
 ghost use Rattle.std.specs.Prelude.{◌≡◌, List, ℕ};
 ghost use Rattle.lockpage.specs.Geometry.{present};
 ghost use Rattle.memory.specs.Memory.{groups};
@@ -47,7 +48,7 @@ fn goes_on(
     marks: &[u8],
     block: u32,
 ) -> bool
-    requires { StepReady present (box_at memory disk) marks.now block }
+    requires { StepReady present (box_at memory.now disk.now) marks.now block }
     ensures { (walked : List ℕ) → Marks marks.now walked
         → result ≡ goes_on present (whole_box present (groups present memory.now)) (box_at memory.now disk.now) point time walked parent block }
 {
@@ -63,7 +64,7 @@ fn goes_on(
 
 // Walks the log, and takes the records of each block walked.
 fn walk(memory: &[u8], disk: &[u8], point: u32, time: u32, res: &mut [u8])
-    requires { WalkReady present (box_at memory disk) res.old }
+    requires { WalkReady present (box_at memory.now disk.now) res.old }
     ensures { res.new
         ≡ newest_bytes (recovered present (whole_box present (groups present memory.now)) (box_at memory.now disk.now) point time) 0 parts }
 {

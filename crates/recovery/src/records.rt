@@ -27,7 +27,7 @@ pub(crate) fn says_kept(e: Entry, point: u32, time: u32) -> bool
 
 // Whether a block is in range, not free, and was written by the point.
 fn is_kept(memory: &[u8], disk: &[u8], point: u32, time: u32, end: u32, block: u32) -> bool
-    requires { KeptReady present (box_at memory disk) end }
+    requires { KeptReady present (box_at memory.now disk.now) end }
     ensures { result ≡ is_kept present (whole_box present (groups present memory.now)) (box_at memory.now disk.now) point time block }
 {
     if block >= end {
@@ -47,7 +47,7 @@ fn take_record(
     i: u32,
     res: &mut [u8],
 )
-    requires { TakeReady present (box_at memory disk) end content.now res.old × (i < records_per_block present) }
+    requires { TakeReady present (box_at memory.now disk.now) end content.now res.old × (i < records_per_block present) }
     ensures { Takes present (box_at memory.now disk.now) point time (record_at content.now (record_size * i) ∷ [])
         res.old res.new }
 {
@@ -72,7 +72,7 @@ pub(crate) fn take_records(
     content: &[u8],
     res: &mut [u8],
 )
-    requires { TakeReady present (box_at memory disk) end content.now res.old }
+    requires { TakeReady present (box_at memory.now disk.now) end content.now res.old }
     ensures { Takes present (box_at memory.now disk.now) point time (records_read present content.now)
         res.old res.new }
 {

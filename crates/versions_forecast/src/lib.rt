@@ -1,6 +1,7 @@
 // The number by which one of a put's commands will be refused, before the first is given. The contracts cite versions_machine's
 // foreseen, and specs/ for the commands and what holds between them.
 #![tactic(auto)]
+
 ghost use Rattle.std.specs.Prelude.{◌≡◌, true, [], ◌∷◌, ◌≤◌, ◌^◌, eqb, ltb, length};
 ghost use Rattle.lockpage.specs.Geometry.{present};
 ghost use Rattle.lockpage.specs.Size.{block_size};
@@ -82,7 +83,7 @@ fn count_before_log(memory: &[u8], block: u32, replaced: u32, a: u32) -> u64
 
 // The entry of a after u has changed a block's.
 fn entry_after(memory: &[u8], disk: &[u8], u: Update, block: u32, time: u32, a: u32) -> Entry
-    requires { EntryReady present (box_at memory disk) u block time a }
+    requires { EntryReady present (box_at memory.now disk.now) u block time a }
     ensures { result ≡ entries_after (current_entry present (box_at memory.now disk.now)) (order_of u block time []) a }
 {
     let e = current_page::entry(memory, disk, a);
@@ -116,7 +117,7 @@ fn unfreeze_refusal(
     lock: u32,
     replaced: u32,
 ) -> u32
-    requires { UnfreezeReady present (box_at memory disk) time lock }
+    requires { UnfreezeReady present (box_at memory.now disk.now) time lock }
     ensures { result ≡ foreseen present (groups present memory.now)
         (counts_past present (count memory.now) (writing block time lock [] ∷ []))
         (entries_past (current_entry present (box_at memory.now disk.now)) (writing block time lock [] ∷ []))
@@ -144,7 +145,7 @@ fn log_refusal(
     replaced: u32,
     reserve: u32,
 ) -> u32
-    requires { ReserveReady present (box_at memory disk) block time replaced reserve }
+    requires { ReserveReady present (box_at memory.now disk.now) block time replaced reserve }
     ensures { result ≡ foreseen present (groups present memory.now)
         (counts_past present (count memory.now) (writing block time lock [] ∷ unfreezes (block_named replaced) time))
         (entries_past (current_entry present (box_at memory.now disk.now)) (writing block time lock [] ∷ unfreezes (block_named replaced) time))
@@ -171,7 +172,7 @@ pub fn forecast(
     due: bool,
     reserve: u32,
 ) -> u32
-    requires { ForecastReady present (box_at memory disk) block time lock reserve }
+    requires { ForecastReady present (box_at memory.now disk.now) block time lock reserve }
     ensures { result ≡ foreseen present (groups present memory.now) (count memory.now)
         (current_entry present (box_at memory.now disk.now))
         (put_orders present block time lock content.now (block_named replaced) due reserve) }

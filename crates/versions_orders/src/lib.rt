@@ -1,6 +1,7 @@
 // One command of the version store's, given to the controller. The contracts cite the definitions of versions_machine, and specs/ what
 // is taken for granted.
 #![tactic(auto)]
+
 ghost use Rattle.std.specs.Prelude.{◌≡◌, [], ◌∷◌};
 ghost use Rattle.lockpage.specs.Geometry.{present};
 ghost use Rattle.addressing.specs.Map.{group_of};
@@ -14,7 +15,7 @@ use machine::Kind;
 
 // Fills proof with the current page of a block's group and its tag.
 fn bring(memory: &[u8], disk: &[u8], block: u32, proof: &mut [u8])
-    requires { BringReady present (box_at memory disk) block proof.old }
+    requires { BringReady present (box_at memory.now disk.now) block proof.old }
     ensures { proof.new
         ≡ tagged present memory.now (group_of present block)
         (current_page present (box_at memory.now disk.now) (group_of present block)) }
@@ -33,7 +34,7 @@ pub fn give(
     time: u32,
     content: &[u8],
 ) -> u32
-    requires { OrderReady present (box_at memory disk) time }
+    requires { OrderReady present (box_at memory.old disk.old) time }
     ensures { carried_of result (box_at memory.new disk.new)
         ≡ carried_out present (box_at memory.old disk.old) (order_of u block time content.now ∷ []) }
 {

@@ -1,5 +1,6 @@
 // Which block is allocated next. The contracts cite the definitions of versions_machine, and specs/ what is taken for granted.
 #![tactic(auto)]
+
 ghost use Rattle.std.specs.Prelude.{◌≡◌, true, ◌-◌, length};
 ghost use Rattle.lockpage.specs.Geometry.{present};
 ghost use Rattle.addressing.specs.Map.{data_blocks, group_of};
@@ -43,7 +44,7 @@ fn is_available(memory: &[u8], disk: &[u8], time: u32, reserve: u32, block: u32)
 
 // The first available block from one on, before the end, or the end where there is none.
 fn next_in(memory: &[u8], disk: &[u8], time: u32, reserve: u32, from: u32, end: u32) -> u32
-    requires { SearchReady present (box_at memory disk) from end }
+    requires { SearchReady present (box_at memory.now disk.now) from end }
     ensures { result ≡ first_that (is_available present (box_at memory.now disk.now) time reserve) (blocks_from from (end - from)) end }
 {
     let mut block = from;
@@ -73,7 +74,7 @@ fn behind(taken: u32, end: u32) -> u32
 
 // The block that is allocated next.
 pub fn next(memory: &[u8], disk: &[u8], time: u32, reserve: u32, taken: u32) -> u32
-    requires { ValidBox present (box_at memory disk) }
+    requires { ValidBox present (box_at memory.now disk.now) }
     ensures { result ≡ next_available present (whole_box present (groups present memory.now)) (box_at memory.now disk.now)
         time reserve taken }
 {
@@ -89,7 +90,7 @@ pub fn next(memory: &[u8], disk: &[u8], time: u32, reserve: u32, taken: u32) -> 
 
 // The block that is allocated next, and whether there is another one besides it. The search stops at the second.
 pub fn two(memory: &[u8], disk: &[u8], time: u32, reserve: u32, taken: u32) -> Found
-    requires { ValidBox present (box_at memory disk) }
+    requires { ValidBox present (box_at memory.now disk.now) }
     ensures { (result.block ≡ next_available present (whole_box present (groups present memory.now)) (box_at memory.now disk.now)
         time reserve taken)
         × (result.two ≡ two_available present (whole_box present (groups present memory.now)) (box_at memory.now disk.now) time reserve) }

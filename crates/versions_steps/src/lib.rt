@@ -2,6 +2,7 @@
 // alter them by controller::update alone. The contracts cite the definitions of versions_machine and versions_bytes, and specs/ what is
 // taken for granted.
 #![tactic(auto)]
+
 pub mod allocation;
 pub mod log;
 pub mod version;

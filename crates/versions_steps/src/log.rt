@@ -23,7 +23,7 @@ pub(crate) fn store_full(
     block: u32,
     time: u32,
 )
-    requires { FullLogReady present (whole_box present (groups present memory.old)) state.old (box_at memory disk) part block time }
+    requires { FullLogReady present (whole_box present (groups present memory.old)) state.old (box_at memory.old disk.old) part block time }
     ensures { (state.new ≡ state_bytes present (log_plan present (whole_box present (groups present memory.old))
         (entered (versions_in state.old) part block) (box_at memory.old disk.old) time).after)
         × (box_at memory.new disk.new ≡ (carried_out present (box_at memory.old disk.old)
@@ -41,7 +41,7 @@ pub(crate) fn store_full(
 
 // Stores the records on demand, with a pointer to the next reserve: the number of its command.
 pub fn store(state: &mut [u8], memory: &mut [u8], disk: &mut [u8], pointer: u32, time: u32) -> u32
-    requires { FlushReady present (whole_box present (groups present memory.old)) state.old (box_at memory disk) pointer time }
+    requires { FlushReady present (whole_box present (groups present memory.old)) state.old (box_at memory.old disk.old) pointer time }
     ensures { called_at result 0 state.new memory.new disk.new ≡ handed present state.old
         (flush present (whole_box present (groups present memory.old)) (versions_in state.old) (box_at memory.old disk.old)
         time) }

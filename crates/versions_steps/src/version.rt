@@ -24,7 +24,7 @@ pub fn forecast(
     time: u32,
     content: &[u8],
 ) -> u32
-    requires { PutReady present (whole_box present (groups present memory.now)) state.now (box_at memory disk) part block time }
+    requires { PutReady present (whole_box present (groups present memory.now)) state.now (box_at memory.now disk.now) part block time }
     ensures { result ≡ (M.put present (whole_box present (groups present memory.now)) (versions_in state.now)
         (box_at memory.now disk.now) part time content.now).number }
 {
@@ -51,7 +51,7 @@ fn write(
     content: &[u8],
     replaced: u32,
 )
-    requires { VersionReady present (box_at memory disk) block time lock content.now replaced }
+    requires { VersionReady present (box_at memory.old disk.old) block time lock content.now replaced }
     ensures { box_at memory.new disk.new ≡ (carried_out present (box_at memory.old disk.old)
         (writing block time lock content.now ∷ unfreezes (block_named replaced) time)).box }
 {
@@ -78,7 +78,7 @@ pub fn store(
     time: u32,
     content: &[u8],
 )
-    requires { StoreReady present (whole_box present (groups present memory.old)) state.old (box_at memory disk) part block time content.now }
+    requires { StoreReady present (whole_box present (groups present memory.old)) state.old (box_at memory.old disk.old) part block time content.now }
     ensures { Leaves present (M.put present (whole_box present (groups present memory.old)) (versions_in state.old)
         (box_at memory.old disk.old) part time content.now) state.new (box_at memory.new disk.new) }
 {

@@ -1,5 +1,6 @@
 // What becomes of the held page: it is put on the disk, changed or lost. The contracts cite the definitions of machine.
 #![tactic(auto)]
+
 ghost use Rattle.std.specs.Prelude.{◌≡◌, true};
 ghost use Rattle.lockpage.specs.Geometry.{present};
 ghost use Rattle.validity.specs.Valid.{valid};
@@ -14,7 +15,7 @@ use memory::layout::{MOST_UPDATES, NONE};
 
 // Puts the held page, if any, on the disk.
 pub fn put_held(memory: &[u8], disk: &mut [u8])
-    requires { ValidBox present (box_at memory disk) }
+    requires { ValidBox present (box_at memory.now disk.old) }
     ensures { disk.new ≡ stored present disk.old (put_held present memory.now) }
 {
     let held = memory::held(memory);
@@ -28,7 +29,7 @@ pub fn put_held(memory: &[u8], disk: &mut [u8])
 
 // The same, if it is another group's.
 pub fn evict(memory: &[u8], disk: &mut [u8], group: u32)
-    requires { ValidBox present (box_at memory disk) }
+    requires { ValidBox present (box_at memory.now disk.old) }
     ensures { disk.new ≡ stored present disk.old (E.evict present memory.now group) }
 {
     if memory::held(memory) == group {
@@ -50,7 +51,7 @@ fn next_update(memory: &[u8], group: u32) -> u32
 
 // The count of a group rises, and its changed page is held or, after the last update that may be, put on the disk.
 pub fn hold_or_put(memory: &mut [u8], disk: &mut [u8], group: u32, page: &[u8])
-    requires { HoldReady present (box_at memory disk) group page.now }
+    requires { HoldReady present (box_at memory.old disk.old) group page.now }
     ensures { (memory.new ≡ changed_memory present memory.old group page.now)
         × (disk.new ≡ stored present disk.old (put_leaving present memory.old group page.now)) }
 {

@@ -13,16 +13,15 @@ use Rattle.machine.specs.Command.{brought_page}
 use Rattle.arguments.proofs.brought_entry.Statement.{statement}
 use Rattle.arguments.proofs.brought_entry.Tie as tie
 
-load-entry-requires : tie.Need-load-entry-requires
+load-entry-requires : tie.Need-load_entry-requires
 load-entry-requires c κs =
-    let placed = c.before in
-    let below : placed.place_of.result < page_place present =
-    omega (arith, placed.place_of.ensures, place_of_below σ placed.before.before.args.block) in
+    let below : c.place_of-place.result < page_place present =
+    omega (arith, c.place_of-place.ensures, place_of_below σ c.args.block) in
     search rules
 
 returns : tie.Need-returns
 unfolding brought_page part
-returns c = c.load-entry.ensures ∙ ap (entry_at _) c.before.before.place_of.ensures
+returns c = c.load_entry.ensures ∙ ap (entry_at _) c.place_of-place.ensures
 
-pub brought-entry-spec : {M : Type 1} → statement M
-brought-entry-spec = tie.close (tie.spec (λ c κs. search rules) (λ c. search rules) (λ c. search rules) (λ c. search rules) load-entry-requires returns)
+pub brought_entry_spec : {M : Type 1} → statement M
+brought_entry_spec = tie.close (tie.spec (λ c κs. search rules) (λ c. search rules) (λ c. search rules) (λ c. search rules) load-entry-requires returns)

@@ -7,8 +7,8 @@ use Rattle.arguments.proofs.disk_fits.Tie as tie
 
 returns : tie.Need-returns
 returns c =
-    let x = c.before.before.before.before.args in
-    disk_answer σ x.memory.now x.disk.now _ _ c.before.groups.ensures c.disk_size_is.ensures
+    let x = c.args in
+    disk_answer σ x.memory.now x.disk.now _ _ c.groups.ensures c.disk_size.ensures
 
-pub disk-fits-spec : {M : Type 1} → statement M
-disk-fits-spec = tie.close (tie.spec (λ c κs. search rules) (λ c κs. search rules) returns)
+pub disk_fits_spec : {M : Type 1} → statement M
+disk_fits_spec = tie.close (tie.spec (λ c κs. search rules) (λ c κs. search rules) returns)

@@ -5,20 +5,20 @@ use lib.Dec.{ltb}
 use Rattle.arguments.proofs.is_inside.Statement.{statement}
 use Rattle.arguments.proofs.is_inside.Tie as tie
 
-read : tie.Need-returns
-read c = rw c.enum_told.given.1 (ap (ltb _) c.before.before.data_blocks_is.ensures)
+read : tie.Need-returns-in-Read
+read c = rw c.in-Read.is (ap (ltb _) c.data_blocks-blocks.ensures)
 
-entry : tie.Need-returns-2
-entry c = rw c.enum-told2.given.1 (ap (ltb _) c.before.before.data_blocks_is.ensures)
+entry : tie.Need-returns-in-Entry
+entry c = rw c.in-Entry.is (ap (ltb _) c.data_blocks-blocks.ensures)
 
-page : tie.Need-returns-3
-page c = rw c.enum-told3.given.1
+page : tie.Need-returns-in-Page
+page c = rw c.in-Page.is
 
-change : tie.Need-returns-4
-change c = rw c.enum-told4.given.1 (ap (ltb _) c.before.before.data_blocks_is.ensures)
+change : tie.Need-returns-in-Change
+change c = rw c.in-Change.is (ap (ltb _) c.data_blocks-blocks.ensures)
 
-pub is-inside-spec : {M : Type 1} → statement M
-is-inside-spec =
+pub is_inside_spec : {M : Type 1} → statement M
+is_inside_spec =
     tie.close
     (tie.spec (λ c κs. search rules) (λ c. search rules) (λ c. search rules) (λ c. search rules) (λ c. search rules) (λ c. search rules)
     (λ c. search rules) (λ c. search rules) (λ c. search rules) (λ c. search rules) read entry page change (λ c. search rules) (λ c. search rules)

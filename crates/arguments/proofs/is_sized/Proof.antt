@@ -8,27 +8,25 @@ use Rattle.arguments.proofs.is_sized.Statement.{statement}
 use Rattle.arguments.proofs.is_sized.Tie as tie
 
 -- where it starts, before the content's length is found
-abbrev start : tie.After-content-length → tie.Start
+abbrev start : tie.After-content_length → tie.Start
 start c = c.before.before.before.before
 
-content : tie.Need-returns
+content : tie.Need-returns-then-content-content_length
 content c =
-    let x = (start c.before).args in
-    content_wrong σ x.k x.content.now x.proof.now x.answer.now _ c.before.content-length.ensures c.if1.true
+    let x = c.args in
+    content_wrong σ x.k x.content.now x.proof.now x.answer.now _ c.content_length.ensures c.if-content-content_length.true
 
-proof : tie.Need-returns-2
+proof : tie.Need-returns-then-proof-proof_length
 proof c =
-    let sized = c.before.before in
-    let x = (start sized.before).args in
-    proof_wrong σ x.k x.content.now x.proof.now x.answer.now _ c.before.proof-length.ensures c.if2.true
-    ∙ proof_decides σ x.k x.content.now x.proof.now x.answer.now _ sized.before.content-length.ensures (omega (arith, sized.if1.false))
+    let x = c.args in
+    proof_wrong σ x.k x.content.now x.proof.now x.answer.now _ c.proof_length.ensures c.if-proof-proof_length.true
+    ∙ proof_decides σ x.k x.content.now x.proof.now x.answer.now _ c.content_length.ensures (omega (arith, c.if-content-content_length.false))
 
-answer : tie.Need-returns-3
+answer : tie.Need-returns
 answer c =
-    let sized = c.before.before in
-    let x = (start sized.before).args in
-    answer_decides σ x.k x.content.now x.proof.now x.answer.now _ c.before.proof-length.ensures (omega (arith, c.if2.false))
-    ∙ proof_decides σ x.k x.content.now x.proof.now x.answer.now _ sized.before.content-length.ensures (omega (arith, sized.if1.false))
+    let x = c.args in
+    answer_decides σ x.k x.content.now x.proof.now x.answer.now _ c.proof_length.ensures (omega (arith, c.if-proof-proof_length.false))
+    ∙ proof_decides σ x.k x.content.now x.proof.now x.answer.now _ c.content_length.ensures (omega (arith, c.if-content-content_length.false))
 
-pub is-sized-spec : {M : Type 1} → statement M
-is-sized-spec = tie.close (tie.spec (λ c κs. search rules) content (λ c κs. search rules) proof answer)
+pub is_sized_spec : {M : Type 1} → statement M
+is_sized_spec = tie.close (tie.spec (λ c κs. search rules) content (λ c κs. search rules) proof answer)

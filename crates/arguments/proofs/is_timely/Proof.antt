@@ -6,15 +6,15 @@ use Rattle.arguments.proofs.ArgumentLaw.{early, late_enough}
 use Rattle.arguments.proofs.is_timely.Statement.{statement}
 use Rattle.arguments.proofs.is_timely.Tie as tie
 
-returns : tie.Need-returns
+returns : tie.Need-returns-then-time-last_time
 returns c =
-    let x = c.before.before.before.args in
-    early σ x.memory.now x.time _ c.before.last_time_is.ensures c.if1.true
+    let x = c.args in
+    early σ x.memory.now x.time _ c.last_time.ensures c.if-time-last_time.true
 
-returns-2 : tie.Need-returns-2
+returns-2 : tie.Need-returns
 returns-2 c =
-    let x = c.before.before.before.args in
-    late_enough σ x.memory.now x.time _ c.before.last_time_is.ensures (omega (arith, c.if1.false))
+    let x = c.args in
+    late_enough σ x.memory.now x.time _ c.last_time.ensures (omega (arith, c.if-time-last_time.false))
 
-pub is-timely-spec : {M : Type 1} → statement M
-is-timely-spec = tie.close (tie.spec (λ c κs. search rules) returns returns-2)
+pub is_timely_spec : {M : Type 1} → statement M
+is_timely_spec = tie.close (tie.spec (λ c κs. search rules) returns returns-2)

@@ -1,4 +1,5 @@
 -- `arguments::refusal` meets its contract: the first no, in order. Assumes nothing.
+use mathlib.Core.Bool.{not}
 use borrow.Author.Rules.{rules}
 use mathlib.Core.Path.{◌≡◌, ap, ◌∙◌}
 use Rattle.lockpage.specs.Geometry.{present}
@@ -12,16 +13,16 @@ use Rattle.arguments.proofs.refusal.Statement.{statement}
 use Rattle.arguments.proofs.refusal.Tie as tie
 
 -- the states on the way back: questions 4, 3 and 2 passed, the start
-abbrev timed : tie.After-is-inside → tie.Else3
+abbrev timed : tie.After-is_inside → tie.Else-not-is_timely
 timed c = c.before.before.before
 
-abbrev known : tie.Else3 → tie.Else2
+abbrev known : tie.Else-not-is_timely → tie.Else-not-is_known
 known c = c.before.before
 
-abbrev fitting : tie.After-is-known → tie.Else1
+abbrev fitting : tie.After-is_known → tie.Else-not-disk_fits
 fitting c = c.before.before
 
-abbrev start : tie.After-disk-fits → tie.Start
+abbrev start : tie.After-disk_fits → tie.Start
 start c = c.before.before.before.before.before.before
 
 -- the kind that the command names
@@ -29,91 +30,91 @@ abbrev kind-of : tie.Start → Kind
 kind-of c = kind_numbered c.args.kind c.args.value
 
 -- questions 3, 5 and 6, of that kind; 5 of the groups in the memory
-known-answer : (c : tie.After-is-known) → c.is_Known.result ≡ passes (question3 present (kind-of (start (fitting c).before)))
-known-answer c = c.is_Known.ensures ∙ ap (λ (k : Kind). passes (question3 present k)) c.before.kind-numbered.ensures
+known-answer : (c : tie.After-is_known) → c.is_known.result ≡ passes (question3 present (kind-of (start (fitting c).before)))
+known-answer c = c.is_known.ensures ∙ ap (λ (k : Kind). passes (question3 present k)) c.kind_numbered.ensures
 
-abbrev start-5 : tie.After-is-inside → tie.Start
+abbrev start-5 : tie.After-is_inside → tie.Start
 start-5 c = start (fitting (known (timed c)).before).before
 
-inside : (c : tie.After-is-inside)
+inside : (c : tie.After-is_inside)
     → let x = (start-5 c).args in
-    c.is-inside.result ≡ passes (question5 present (kind-of (start-5 c)) (groups present x.memory.now) x.block)
+    c.is_inside.result ≡ passes (question5 present (kind-of (start-5 c)) (groups present x.memory.now) x.block)
 inside c =
-    let x = (start-5 c).args in
-    inside_answer σ c.before.before.kind-numbered2.result x.memory.now _ x.block _ c.before.groups.ensures c.is-inside.ensures
-    ∙ ap (λ (k : Kind). passes (question5 present k (groups present x.memory.now) x.block)) c.before.before.kind-numbered2.ensures
+    let x = c.args in
+    inside_answer σ c.kind_numbered-k.result x.memory.now _ x.block _ c.groups.ensures c.is_inside.ensures
+    ∙ ap (λ (k : Kind). passes (question5 present k (groups present x.memory.now) x.block)) c.kind_numbered-k.ensures
 
-sized : (c : tie.After-is-sized)
+sized : (c : tie.After-is_sized)
     → let x = (start-5 c.before.before).args in
-    c.is-sized.result ≡ passes (question6 present (kind-of (start-5 c.before.before)) x.content.now x.proof.now x.answer.now)
+    c.is_sized.result ≡ passes (question6 present (kind-of (start-5 c.before.before)) x.content.now x.proof.now x.answer.now)
 sized c =
-    let x = (start-5 c.before.before).args in
-    c.is-sized.ensures
+    let x = c.args in
+    c.is_sized.ensures
     ∙ ap (λ (k : Kind). passes (question6 present k x.content.now x.proof.now x.answer.now))
-    c.before.before.before.before.kind-numbered2.ensures
+    c.kind_numbered-k.ensures
 
-disk : tie.Need-returns
+disk : tie.Need-returns-then-not-disk_fits
 disk c =
     let from = start c.before in
-    let x = from.args in
+    let x = c.args in
     no_2 σ (kind-of from) x.memory.now x.disk.now x.block x.time x.content.now x.proof.now x.answer.now _
-    c.before.disk-fits.ensures c.if1.true
+    c.disk_fits.ensures (ap not c.if-not-disk_fits.true)
 
-kind : tie.Need-returns-2
+kind : tie.Need-returns-then-not-is_known
 kind c =
     let two = fitting c.before in
     let from = start two.before in
-    let x = from.args in
+    let x = c.args in
     no_3 σ (kind-of from) x.memory.now x.disk.now x.block x.time x.content.now x.proof.now x.answer.now _
-    two.before.disk-fits.ensures two.if1.left _ (known-answer c.before) c.if2.true
+    c.disk_fits.ensures (ap not c.if-not-disk_fits.false) _ (known-answer c.before) (ap not c.if-not-is_known.true)
 
-time : tie.Need-returns-3
+time : tie.Need-returns-then-not-is_timely
 time c =
     let three = c.before.before in
     let two = fitting three.before in
     let from = start two.before in
-    let x = from.args in
+    let x = c.args in
     no_4 σ (kind-of from) x.memory.now x.disk.now x.block x.time x.content.now x.proof.now x.answer.now _
-    two.before.disk-fits.ensures two.if1.left _ (known-answer three.before) three.if2.false _ c.before.is-timely.ensures
-    c.if3.true
+    c.disk_fits.ensures (ap not c.if-not-disk_fits.false) _ (known-answer three.before) (ap not c.if-not-is_known.false) _ c.is_timely.ensures
+    (ap not c.if-not-is_timely.true)
 
-address : tie.Need-returns-4
+address : tie.Need-returns-then-not-is_inside
 address c =
     let four = timed c.before in
     let three = known four in
     let two = fitting three.before in
     let from = start two.before in
-    let x = from.args in
+    let x = c.args in
     no_5 σ (kind-of from) x.memory.now x.disk.now x.block x.time x.content.now x.proof.now x.answer.now _
-    two.before.disk-fits.ensures two.if1.left _ (known-answer three.before) three.if2.left _ four.before.is-timely.ensures
-    four.if3.left _ (inside c.before) c.if4.true
+    c.disk_fits.ensures (ap not c.if-not-disk_fits.false) _ (known-answer three.before) (ap not c.if-not-is_known.false) _ c.is_timely.ensures
+    (ap not c.if-not-is_timely.false) _ (inside c.before) (ap not c.if-not-is_inside.true)
 
-lengths : tie.Need-returns-5
+lengths : tie.Need-returns-then-not-is_sized
 lengths c =
     let five = c.before.before in
     let four = timed five.before in
     let three = known four in
     let two = fitting three.before in
     let from = start two.before in
-    let x = from.args in
+    let x = c.args in
     no_6 σ (kind-of from) x.memory.now x.disk.now x.block x.time x.content.now x.proof.now x.answer.now _
-    two.before.disk-fits.ensures two.if1.left _ (known-answer three.before) three.if2.left _ four.before.is-timely.ensures
-    four.if3.left _ (inside five.before) five.if4.false _ (sized c.before) c.if5.true
+    c.disk_fits.ensures (ap not c.if-not-disk_fits.false) _ (known-answer three.before) (ap not c.if-not-is_known.false) _ c.is_timely.ensures
+    (ap not c.if-not-is_timely.false) _ (inside five.before) (ap not c.if-not-is_inside.false) _ (sized c.before) (ap not c.if-not-is_sized.true)
 
-none : tie.Need-returns-6
+none : tie.Need-returns
 none c =
     let five = c.before.before in
     let four = timed five.before in
     let three = known four in
     let two = fitting three.before in
     let from = start two.before in
-    let x = from.args in
+    let x = c.args in
     none_no σ (kind-of from) x.memory.now x.disk.now x.block x.time x.content.now x.proof.now x.answer.now _
-    two.before.disk-fits.ensures two.if1.left _ (known-answer three.before) three.if2.left _ four.before.is-timely.ensures
-    four.if3.left _ (inside five.before) five.if4.false _ (sized c.before) c.if5.false
+    c.disk_fits.ensures (ap not c.if-not-disk_fits.false) _ (known-answer three.before) (ap not c.if-not-is_known.false) _ c.is_timely.ensures
+    (ap not c.if-not-is_timely.false) _ (inside five.before) (ap not c.if-not-is_inside.false) _ (sized c.before) (ap not c.if-not-is_sized.false)
 
-pub refusal-spec : {M : Type 1} → statement M
-refusal-spec =
+pub refusal_spec : {M : Type 1} → statement M
+refusal_spec =
     tie.close
     (tie.spec
     (λ c κs. search rules)

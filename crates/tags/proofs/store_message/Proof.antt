@@ -9,17 +9,11 @@ use Rattle.tags.proofs.store_message.Tie as tie
 
 returns : tie.Need-returns
 returns c =
-    let copied = c.before.before in
-    let numbered = copied.before.before.before.before in
-    let counted = numbered.before.before in
-    let grouped = counted.before.before.before in
-    let salted = grouped.before.before.before.before in
-    let start = salted.before.before.before.before.before in
-    let ready = start.requires.0 in
-    let out = start.args.out.now in
-    message_built σ _ _ out _ _ _ _ _ _ ready.count-count.size ready.page_size_is start.requires.1
-    (lent_filled out _ _ 0 _ (salt_length σ _ ready.count-count.size) salted.copy_salt.ensures)
-    grouped.store_u64.ensures counted.count-count.ensures numbered.store_u32.ensures copied.copy.ensures
+    let ready = c.requires.0 in
+    let out = c.args.out.now in
+    message_built σ _ _ out _ _ _ _ _ _ ready.count.size ready.page_size_is c.requires.1
+    (lent_filled out _ _ 0 _ (salt_length σ _ ready.count.size) c.copy_salt.ensures)
+    c.store_u64.ensures c.count-count.ensures c.store_u32.ensures c.copy.ensures
 
 pub store_message_spec : {M : Type 1} → statement M
 store_message_spec =

@@ -9,10 +9,7 @@ use Rattle.tags.proofs.store_tag.Tie as tie
 returns : tie.Need-returns
 unfolding part
 returns c =
-    let copied = c.before.before in
-    let made = copied.before.before.before.before in
-    let start = made.before.before.before.before.before.before in
-    tag_stored σ _ _ _ _ _ start.requires.1 made.tag.ensures copied.copy.ensures
+    tag_stored σ _ _ _ _ _ c.requires.1 c.tag.ensures c.copy.ensures
 
 pub store_tag_spec : {M : Type 1} → statement M
 store_tag_spec =

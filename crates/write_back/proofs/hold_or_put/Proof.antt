@@ -13,13 +13,13 @@ use Rattle.write_back.proofs.hold_or_put.Statement.{statement}
 use Rattle.write_back.proofs.hold_or_put.Tie as tie
 
 -- the states on the way back: the count read, the update's number, the start
-abbrev counted : tie.After-set-count → tie.After-count
+abbrev counted : tie.After-set_count → tie.After-count-count
 counted c = c.before.before
 
-abbrev numbered : tie.After-count → tie.After-next-update
+abbrev numbered : tie.After-count-count → tie.After-next_update-updates
 numbered c = c.before.before
 
-abbrev start : tie.After-next-update → tie.Start
+abbrev start : tie.After-next_update-updates → tie.Start
 start c = c.before.before.before.before.before
 
 -- the memory at entry has the group
@@ -30,52 +30,46 @@ has c =
 
 hold-requires : tie.Need-hold-requires
 hold-requires c κs =
-    let tested = c.before in
-    let set = tested.before.before.before in
+    let set = c.before in
     let first = start (numbered (counted set)) in
     let size = (has first).size in
-    (record { count = record { size = search rules; group = (has first).group }; page_size_is = first.pre.page_size_is }, omega (arith, tested.if1.true))
+    (record { count = record { size = search rules; group = (has first).group }; page_size_is = first.requires.page_size_is }, omega (arith, c.if-updates-le-MOST_UPDATES.true))
 
-store-page-requires : tie.Need-store-page-requires
+store-page-requires : tie.Need-store_page-requires
 store-page-requires c κs =
-    let set = c.before.before.before.before in
+    let set = c.before in
     let first = start (numbered (counted set)) in
-    (has_group σ _ _ _ first.pre.box.disk first.pre.group, first.pre.page_size_is)
+    (has_group σ _ _ _ first.requires.box.disk first.requires.group, first.requires.page_size_is)
 
-hold-none-requires : tie.Need-hold-none-requires
+hold-none-requires : tie.Need-hold_none-requires
 hold-none-requires c κs =
-    let set = c.before.before.before.before.before.before.before.before in
+    let set = c.before in
     let size = (has (start (numbered (counted set)))).size in
     search rules
 
-held : tie.Need-returns
+held : tie.Need-returns-then-updates-le-MOST_UPDATES
 held c =
-    let held = c.before.before in
-    let tested = held.before.before in
-    let set = tested.before.before.before in
+    let set = c.before in
     let read = counted set in
-    let next = (numbered read).next-update.ensures in (
-      staying_held σ _ _ _ next (omega (arith, tested.if1.true)) _ _ _ _ read.count.ensures set.set-count.ensures held.hold.ensures,
-      staying_put σ _ _ _ next (omega (arith, tested.if1.true)) _ _,
+    let next = (numbered read).next_update-updates.ensures in (
+      staying_held σ _ _ _ next (omega (arith, c.if-updates-le-MOST_UPDATES.true)) _ _ _ _ read.count-count.ensures c.set_count.ensures c.hold.ensures,
+      staying_put σ _ _ _ next (omega (arith, c.if-updates-le-MOST_UPDATES.true)) _ _,
     )
 
-left : tie.Need-returns-2
+left : tie.Need-returns
 left c =
-    let dropped = c.before.before in
-    let put = dropped.before.before.before.before in
-    let tested = put.before.before in
-    let set = tested.before.before.before in
+    let set = c.before in
     let read = counted set in
-    let next = (numbered read).next-update.ensures in (
-      leaving_held σ _ _ _ next (omega (arith, tested.if1.false)) _ _ _ _ read.count.ensures set.set-count.ensures
-          dropped.hold-none.ensures,
-      leaving_put σ _ _ _ next (omega (arith, tested.if1.false)) _ _ _ put.store-page.ensures,
+    let next = (numbered read).next_update-updates.ensures in (
+      leaving_held σ _ _ _ next (omega (arith, c.if-updates-le-MOST_UPDATES.false)) _ _ _ _ read.count-count.ensures c.set_count.ensures
+          c.hold_none.ensures,
+      leaving_put σ _ _ _ next (omega (arith, c.if-updates-le-MOST_UPDATES.false)) _ _ _ c.store_page.ensures,
     )
 
-pub hold-or-put-spec : {M : Type 1} → statement M
-hold-or-put-spec =
+pub hold_or_put_spec : {M : Type 1} → statement M
+hold_or_put_spec =
     tie.close
     (tie.spec (λ c κs. c.before.before.before.before.requires.box.memory) (λ c κs. has (start c.before))
-    (λ c. omega (arith, c.before.count.ensures, (start (numbered c.before)).requires.unexhausted))
+    (λ c. omega (arith, c.before.count-count.ensures, (start (numbered c.before)).requires.unexhausted))
     (λ c κs. has (start (numbered c.before))) hold-requires (λ c. search rules) held store-page-requires hold-none-requires
     (λ c. search rules) (λ c. search rules) left)

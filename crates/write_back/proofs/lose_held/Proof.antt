@@ -10,44 +10,42 @@ use Rattle.write_back.proofs.HeldLaw.{none_lost, held_few, held_count, held_lost
 use Rattle.write_back.proofs.lose_held.Statement.{statement}
 use Rattle.write_back.proofs.lose_held.Tie as tie
 
-none : tie.Need-returns
-none c = none_lost σ _ _ c.before.held.ensures c.if1.true
+none : tie.Need-returns-then-lost
+none c = none_lost σ _ _ c.held-lost.ensures c.if-lost.true
 
 -- the states on the way back: none held, the count read, a group held, the start
-abbrev counted : tie.After-hold-none → tie.After-count
+abbrev counted : tie.After-hold_none → tie.After-count-count
 counted c = c.before.before
 
-abbrev tested : tie.After-count → tie.Else1
+abbrev tested : tie.After-count-count → tie.Else-lost
 tested c = c.before.before
 
-abbrev start : tie.Else1 → tie.Start
+abbrev start : tie.Else-lost → tie.Start
 start c = c.before.before.before.before
 
-few : (c : tie.Else1) → c.before.held.result < present.most_groups
-few c = held_few σ _ _ c.before.held.ensures (facts σ _ (start c).requires) c.if1.false
+few : (c : tie.Else-lost) → c.held-lost.result < present.most_groups
+few c = held_few σ _ _ c.held-lost.ensures (facts σ _ c.requires) c.if-lost.false
 
-within : (c : tie.After-count) → c.count.result ≤ count_limit
+within : (c : tie.After-count-count) → c.count-count.result ≤ count_limit
 within c =
-    let some = tested c in
-    held_count σ _ _ some.before.held.ensures (facts σ _ (start some).pre) some.if1.left _ c.count.ensures
+    held_count σ _ _ c.held-lost.ensures (facts σ _ c.requires) c.if-lost.false _ c.count-count.ensures
 
-set-requires : tie.Need-set-count-requires
+set-requires : tie.Need-set_count-requires
 set-requires c κs =
-    let some = tested (counted c.before.before.before) in
-    let size = (facts σ _ (start some).pre).size in
+    let some = tested c in
+    let size = (facts σ _ (start some).requires).size in
     record { size = search rules; group = few some }
 
-some : tie.Need-returns-2
+some : tie.Need-returns
 some c =
-    let set = c.before.before in
-    let dropped = set.before.before.before.before in
+    let dropped = c.before in
     let read = counted dropped in
     let held = tested read in
-    held_lost σ _ _ held.before.held.ensures (facts σ _ (start held).pre) held.if1.left _ read.count.ensures _ _
-    dropped.hold-none.ensures set.set-count.ensures
+    held_lost σ _ _ held.before.held-lost.ensures (facts σ _ (start held).requires) held.if-lost.false _ read.count-count.ensures _ _
+    c.hold_none.ensures c.set_count.ensures
 
-pub lose-held-spec : {M : Type 1} → statement M
-lose-held-spec =
+pub lose_held_spec : {M : Type 1} → statement M
+lose_held_spec =
     tie.close
     (tie.spec (λ c κs. (facts σ _ c.before.before.requires).size) (λ c. search rules) (λ c. search rules) none
     (λ c κs. record { size = (facts σ _ (start c.before).requires).size; group = few c.before })

@@ -9,18 +9,17 @@ use Rattle.machine.proofs.LeavingLaw.{next_same, next_new}
 use Rattle.write_back.proofs.next_update.Statement.{statement}
 use Rattle.write_back.proofs.next_update.Tie as tie
 
-new : tie.Need-returns
-new c = sym (next_new σ _ _ (λ e. omega (arith, c.if1.true, c.before.held.ensures)))
+new : tie.Need-returns-then-held-group
+new c = sym (next_new σ _ _ (λ e. omega (arith, c.if-held-group.true, c.held.ensures)))
 
-add-result : tie.Need-overflow-add-result
-add-result c = omega (arith, c.update-count.ensures, updates_few σ _ (facts σ _ c.before.before.before.before.requires))
+add-result : tie.Need-overflow_add-result
+add-result c = omega (arith, c.update_count.ensures, updates_few σ _ (facts σ _ c.requires))
 
-same : tie.Need-returns-2
+same : tie.Need-returns
 same c =
-    let tested = c.before in
-    ap (λ (n : ℕ). n + 1) c.update-count.ensures ∙ sym (next_same σ _ _ (omega (arith, tested.if1.false, tested.before.held.ensures)))
+    ap (λ (n : ℕ). n + 1) c.update_count.ensures ∙ sym (next_same σ _ _ (omega (arith, c.if-held-group.false, c.held.ensures)))
 
-pub next-update-spec : {M : Type 1} → statement M
-next-update-spec =
+pub next_update_spec : {M : Type 1} → statement M
+next_update_spec =
     tie.close
     (tie.spec (λ c κs. (facts σ _ c.before.requires).size) new (λ c κs. (facts σ _ c.before.before.before.requires).size) add-result same)

@@ -8,42 +8,41 @@ use Rattle.write_back.proofs.put_held.Statement.{statement}
 use Rattle.write_back.proofs.put_held.Tie as tie
 
 -- where it starts, once a group is held, and where that is known, once its page is copied
-abbrev start : tie.Else1 → tie.Start
+abbrev start : tie.Else-held → tie.Start
 start c = c.before.before.before.before
 
-abbrev tested : tie.After-copy-page → tie.Else1
+abbrev tested : tie.After-copy_page → tie.Else-held
 tested c = c.before.before
 
-valid : (c : tie.Else1) → Valid present (start c).args.memory.now
-valid c = facts σ _ (start c).requires.memory
+valid : (c : tie.Else-held) → Valid present c.args.memory.now
+valid c = facts σ _ c.requires.memory
 
-none : tie.Need-returns
-none c = none_put σ _ _ c.before.held.ensures _ c.if1.true
+none : tie.Need-returns-then-held
+none c = none_put σ _ _ c.held-held.ensures _ c.if-held.true
 
-copy-page-requires : tie.Need-copy-page-requires
+copy-page-requires : tie.Need-copy_page-requires
 copy-page-requires c κs =
     let size = (valid c.before).size in
     search rules
 
-store-page-requires : tie.Need-store-page-requires
+store-page-requires : tie.Need-store_page-requires
 store-page-requires c κs =
-    let copied = c.before.before.before in
+    let copied = c.before in
     let some = tested copied in
     let disk = (start some).args.disk.now in (
-      held_has σ _ _ some.before.held.ensures (valid some) some.if1.left disk _ (start some).pre.disk copied.copy-page.ensures,
-      held_size σ _ _ some.before.held.ensures (valid some) some.if1.left disk _ (start some).pre.disk copied.copy-page.ensures,
+      held_has σ _ _ some.before.held-held.ensures (valid some) some.if-held.false disk _ (start some).requires.disk c.copy_page.ensures,
+      held_size σ _ _ some.before.held-held.ensures (valid some) some.if-held.false disk _ (start some).requires.disk c.copy_page.ensures,
     )
 
-some : tie.Need-returns-2
+some : tie.Need-returns
 some c =
-    let stored = c.before.before in
-    let copied = stored.before.before.before.before in
+    let copied = c.before in
     let held = tested copied in
-    held_put σ _ _ held.before.held.ensures (valid held) held.if1.left _ _ (start held).pre.disk copied.copy-page.ensures _
-    stored.store-page.ensures
+    held_put σ _ _ held.before.held-held.ensures (valid held) held.if-held.false _ _ (start held).requires.disk c.copy_page.ensures _
+    c.store_page.ensures
 
-pub put-held-spec : {M : Type 1} → statement M
-put-held-spec =
+pub put_held_spec : {M : Type 1} → statement M
+put_held_spec =
     tie.close
     (tie.spec (λ c κs. (facts σ _ c.before.before.requires.memory).size) (λ c. search rules) none (λ c. search rules) copy-page-requires
     (λ c. search rules) store-page-requires (λ c. search rules) some)

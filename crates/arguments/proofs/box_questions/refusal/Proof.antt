@@ -1,6 +1,7 @@
 -- `arguments::box_questions::refusal` meets its contract: the first no, in order. Assumes nothing.
+use mathlib.Core.Bool.{not}
 use borrow.Author.Rules.{rules}
-use mathlib.Core.Path.{◌≡◌, refl, sym, ◌∙◌}
+use mathlib.Core.Path.{ap, ◌≡◌, refl, sym, ◌∙◌}
 use mathlib.Mathlib.Data.Bool.Basic.{eq-true_of_not-eq-false'}
 use mathlib.Core.List.{List, [], ◌∷◌}
 use Prim.Native.Nat.{ℕ}
@@ -25,40 +26,40 @@ all m d now = question1 present m ∷ second m d now
 abbrev start : tie.After-valid → tie.Start
 start c = c.before.before.before
 
-left1 : (c : tie.Else1)
+left1 : (c : tie.Else-not-valid)
     → let x = (start c.before).args in
     first_no (second x.memory.now x.disk.now x.time) ≡ first_no (all x.memory.now x.disk.now x.time)
-left1 c = goes_on (question1 present _) _ _ c.before.valid.ensures c.if1.false
+left1 c = goes_on (question1 present _) _ _ c.valid.ensures (ap not c.if-not-valid.false)
 
-left2 : (c : tie.Else2)
+left2 : (c : tie.Else-not-disk_fits)
     → let x = (start c.before.before.before).args in
     first_no (question4 present x.memory.now x.time ∷ []) ≡ first_no (all x.memory.now x.disk.now x.time)
 left2 c =
-    let x = (start c.before.before.before).args in
-    goes_on (question2 present x.memory.now x.disk.now) _ _ c.before.disk-fits.ensures c.if2.false ∙ left1 c.before.before
+    let x = c.args in
+    goes_on (question2 present x.memory.now x.disk.now) _ _ c.disk_fits.ensures (ap not c.if-not-disk_fits.false) ∙ left1 c.before.before
 
-size : (c : tie.Else1) → length (start c.before).args.memory.now ≡ memory_size present
-size c = (facts σ _ (sym c.before.valid.ensures ∙ eq-true_of_not-eq-false' c.if1.false)).size
+size : (c : tie.Else-not-valid) → length (start c.before).args.memory.now ≡ memory_size present
+size c = (facts σ _ (sym c.valid.ensures ∙ c.if-not-valid.false)).size
 
-invalid : tie.Need-returns
-invalid c = says_no 1 (question1 present _) _ _ refl c.before.valid.ensures c.if1.true
+invalid : tie.Need-returns-then-not-valid
+invalid c = says_no 1 (question1 present _) _ _ refl c.valid.ensures (ap not c.if-not-valid.true)
 
-disk_size_is : tie.Need-returns-2
+disk_size_is : tie.Need-returns-then-not-disk_fits
 disk_size_is c =
-    let x = (start c.before.before.before).args in
-    says_no 2 (question2 present x.memory.now x.disk.now) _ _ refl c.before.disk-fits.ensures c.if2.true ∙ left1 c.before.before
+    let x = c.args in
+    says_no 2 (question2 present x.memory.now x.disk.now) _ _ refl c.disk_fits.ensures (ap not c.if-not-disk_fits.true) ∙ left1 c.before.before
 
-time : tie.Need-returns-3
+time : tie.Need-returns-then-not-is_timely
 time c =
-    let x = (start c.before.before.before.before.before).args in
-    says_no 4 (question4 present x.memory.now x.time) _ _ refl c.before.is-timely.ensures c.if3.true ∙ left2 c.before.before
+    let x = c.args in
+    says_no 4 (question4 present x.memory.now x.time) _ _ refl c.is_timely.ensures (ap not c.if-not-is_timely.true) ∙ left2 c.before.before
 
-none : tie.Need-returns-4
+none : tie.Need-returns
 unfolding first_no
 none c =
-    let x = (start c.before.before.before.before.before).args in
-    goes_on (question4 present x.memory.now x.time) [] _ c.before.is-timely.ensures c.if3.false ∙ left2 c.before.before
+    let x = c.args in
+    goes_on (question4 present x.memory.now x.time) [] _ c.is_timely.ensures (ap not c.if-not-is_timely.false) ∙ left2 c.before.before
 
-pub refusal-spec : {M : Type 1} → statement M
-refusal-spec =
+pub refusal_spec : {M : Type 1} → statement M
+refusal_spec =
     tie.close (tie.spec (λ c κs. search rules) invalid (λ c κs. size c) disk_size_is (λ c κs. size c.before.before) time none)
