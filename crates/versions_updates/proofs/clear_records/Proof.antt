@@ -11,10 +11,10 @@ returns c ν es few =
     let third = last.before.before.before.before in
     let second = third.before.before.before.before in
     let first = second.before.before.before.before in
-    cleared_stored present ν _ _ _ _ _ _ first.store-u32.ensures second.store-u322.ensures third.store-u323.ensures
+    cleared_stored present ν _ _ _ _ _ _ first.store_u32.ensures second.store_u32-2.ensures third.store_u32-3.ensures
     last.fill.ensures es few
 
-pub clear-records-spec : {M : Type 1} → statement M
-clear-records-spec =
+pub clear_records_spec : {M : Type 1} → statement M
+clear_records_spec =
     tie.close
     (tie.spec (λ c κs. search rules) (λ c κs. search rules) (λ c κs. search rules) (λ c κs. search rules) (λ c. search rules) returns)

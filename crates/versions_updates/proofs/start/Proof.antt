@@ -13,8 +13,8 @@ returns c =
     let second = third.before.before.before.before in
     let first = second.before.before.before.before in
     let start = first.before.before.before in
-    start_stored present _ _ _ _ _ _ _ start.requires first.store-u32.ensures second.store-u322.ensures third.store-u323.ensures
-    fourth.store-u324.ensures last.fill.ensures
+    start_stored present _ _ _ _ _ _ _ start.requires first.store_u32.ensures second.store_u32-2.ensures third.store_u32-3.ensures
+    fourth.store_u32-4.ensures last.fill.ensures
 
 pub start_spec : {M : Type 1} → statement M
 start_spec =
