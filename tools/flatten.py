@@ -25,7 +25,7 @@ def group_end(text, at):
 
 def is_state(text, states, functions):
     """Whether the text is a state: a variable of one, a step back from it, or a place function's value."""
-    words = re.sub(r"[()]", " ", text).split()
+    words = text.replace("(", " ").replace(")", "").split()
     if not words:
         return False
     last = re.sub(r"(\.before)*\Z", "", words[-1])
@@ -62,14 +62,30 @@ def declaration(text, functions):
     return text[: head.end()] + body
 
 
+def body_flattened(body):
+    functions = {it[1] for it in PLACE_FUNCTION.finditer(body)}
+    parts = re.split(r"(\n\n(?=(?:--|\S)))", body)
+    return "".join(it if it.isspace() else declaration(it, functions) for it in parts)
+
+
+def without_unused(body):
+    """Drops the place functions that nothing names any more, with the comment above each."""
+    while True:
+        for found in PLACE_FUNCTION.finditer(body):
+            if len(re.findall(NAME % re.escape(found[1]) + r"(?![\w'-])", body)) == 2:
+                start = re.search(r"(?m:^--[^\n]*\n)*\Z", body[: found.start()]).start()
+                body = (body[:start].rstrip("\n") + "\n\n" if body[:start].strip() else "") + body[found.end() :].lstrip("\n")
+                break
+        else:
+            return body
+
+
 def main():
     for path in sys.argv[1:]:
         with open(path, encoding="utf-8") as it:
             text = it.read()
         head, body = re.match(r"((?:--[^\n]*\n|use [^\n]*\n|\s*\n)*)(.*)", text, re.S).groups()
-        functions = {it[1] for it in PLACE_FUNCTION.finditer(body)}
-        parts = re.split(r"(\n\n(?=(?:--|\S)))", body)
-        now = head + "".join(it if it.isspace() else declaration(it, functions) for it in parts)
+        now = head + without_unused(body_flattened(body))
         if now != text:
             with open(path, "w", encoding="utf-8") as it:
                 it.write(now)

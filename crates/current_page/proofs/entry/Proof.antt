@@ -19,13 +19,11 @@ place-small c = omega (arith, c.place_of-place.ensures, place_of_below σ c.args
 
 load-entry-requires : tie.Need-load_entry-requires
 load-entry-requires c κs =
-    let placed = c.before.before in
-    (c.requires.0, omega (arith, place-small placed))
+    (c.requires.0, omega (arith, place-small c.before.before))
 
 load-entry-requires-2 : tie.Need-load_entry-requires-2
 load-entry-requires-2 c κs =
-    let placed = c.before.before in
-    (has_computed σ _ _ _ c.requires.1 c.group_of-group.ensures, omega (arith, place-small placed))
+    (has_computed σ _ _ _ c.requires.1 c.group_of-group.ensures, omega (arith, place-small c.before.before))
 
 returns : tie.Need-returns-then-held-group
 returns c =

@@ -2,7 +2,6 @@
 use mathlib.Core.Bool.{not}
 use borrow.Author.Rules.{rules}
 use mathlib.Core.Path.{ap, ◌≡◌, refl, sym, ◌∙◌}
-use mathlib.Mathlib.Data.Bool.Basic.{eq-true_of_not-eq-false'}
 use mathlib.Core.List.{List, [], ◌∷◌}
 use Prim.Native.Nat.{ℕ}
 use lib.ListN.{length}
