@@ -172,6 +172,19 @@ def in_place_of_needs(part, of, lemmas, functions, at_need):
     return part
 
 
+def last_values(body, of):
+    """What a call left in an argument, by the parameter's name."""
+    for _, _, (_, label), callee, _ in of["places"]:
+        params = of["params"].get(callee) if callee else None
+        if params:
+            body = re.sub(
+                r"\.%s\.(?:new|last)((?:\.1)*)\.0(?![\w.])" % re.escape(label),
+                lambda it: f".{label}.new.{params[it[1].count('1')]}" if it[1].count("1") < len(params) else it[0],
+                body,
+            )
+    return body
+
+
 def relabelled(text, of, name):
     needs, places, fields, loops = tables(of)
     known = set(places.values()) | set(fields.values())
@@ -212,7 +225,7 @@ def relabelled(text, of, name):
     body = re.sub(r"\beq-(?:true|false)_of_not-eq-(?:true|false)' (?=[\w.-]+\.(?:true|false)\b)", "", body)
     body = re.sub(r"(?<=[\w)])\.pre\b", ".requires", body)
     body = re.sub(r"(?<=[\w)])\.inv\b", ".invariant", body)
-    body = arm_facts(body, of)
+    body = last_values(arm_facts(body, of), of)
     body = flatten.without_unused(recounted(flatten.body_flattened(steps_back(body, of)), of))
     dashed = plain(name) + "-spec"
     body = re.sub(r"(?<![\w.-])%s(?![\w-])" % re.escape(dashed), name + "_spec", body)
