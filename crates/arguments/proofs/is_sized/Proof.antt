@@ -20,13 +20,13 @@ proof : tie.Need-returns-then-proof-proof_length
 proof c =
     let x = c.args in
     proof_wrong σ x.k x.content.now x.proof.now x.answer.now _ c.proof_length.ensures c.if-proof-proof_length.true
-    ∙ proof_decides σ x.k x.content.now x.proof.now x.answer.now _ c.content_length.ensures (omega (arith, c.if-content-content_length.false))
+    ∙ proof_decides σ x.k x.content.now x.proof.now x.answer.now _ c.content_length.ensures (omega arith)
 
 answer : tie.Need-returns
 answer c =
     let x = c.args in
-    answer_decides σ x.k x.content.now x.proof.now x.answer.now _ c.proof_length.ensures (omega (arith, c.if-proof-proof_length.false))
-    ∙ proof_decides σ x.k x.content.now x.proof.now x.answer.now _ c.content_length.ensures (omega (arith, c.if-content-content_length.false))
+    answer_decides σ x.k x.content.now x.proof.now x.answer.now _ c.proof_length.ensures (omega arith)
+    ∙ proof_decides σ x.k x.content.now x.proof.now x.answer.now _ c.content_length.ensures (omega arith)
 
 pub is_sized_spec : {M : Type 1} → statement M
 is_sized_spec = tie.close (tie.spec (λ c κs. search rules) content (λ c κs. search rules) proof answer)

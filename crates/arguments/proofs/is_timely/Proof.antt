@@ -14,7 +14,7 @@ returns c =
 returns-2 : tie.Need-returns
 returns-2 c =
     let x = c.args in
-    late_enough σ x.memory.now x.time _ c.last_time.ensures (omega (arith, c.if-time-last_time.false))
+    late_enough σ x.memory.now x.time _ c.last_time.ensures (omega arith)
 
 pub is_timely_spec : {M : Type 1} → statement M
 is_timely_spec = tie.close (tie.spec (λ c κs. search rules) returns returns-2)

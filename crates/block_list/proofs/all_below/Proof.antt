@@ -30,31 +30,23 @@ number c = block_number c.args.blocks.now (c.loop-i.i - 1)
 
 number-requires : tie.Need-number-requires invariant-loop decreases-loop
 number-requires c κs =
-    number_within c.args.blocks.now (c.loop-i.i - 1) (omega (arith, c.loop-i-test.true, c.loop-i.invariant.0))
-
-loop-again : tie.Need-loop-i-preserved-then-number-limit invariant-loop decreases-loop
-loop-again c =
-    let inv = c.loop-i.invariant in (
-      omega (arith, c.loop-i-test.true, inv.0),
-      all_no _ _ _ _ (omega (arith, c.loop-i-test.true, inv.0))
-          (le-ltb (number c.before.before.before) c.args.limit (omega (arith, c.number.ensures, c.if-number-limit.true))),
-    )
+    number_within c.args.blocks.now (c.loop-i.i - 1) (omega (arith, c.loop-i.invariant.0))
 
 loop-again-2 : tie.Need-loop-i-preserved invariant-loop decreases-loop
 loop-again-2 c =
     let inv = c.loop-i.invariant in (
-      omega (arith, c.loop-i-test.true, inv.0),
-      all_yes _ _ _ _ _ (omega (arith, c.loop-i-test.true)) (omega (arith, c.loop-i-test.true, inv.0)) _ inv.1
-          (lt-ltb (number c.before.before.before) c.args.limit (omega (arith, c.number.ensures, c.if-number-limit.false))),
+      omega (arith, inv.0),
+      all_yes _ _ _ _ _ (omega arith) (omega (arith, inv.0)) _ inv.1
+          (lt-ltb (number c.before.before.before) c.args.limit (omega (arith, c.number.ensures))),
     )
 
 returns : tie.Need-returns invariant-loop decreases-loop
 returns c =
     let inv = c.loop-i.invariant in
-    all_counted_down _ _ _ _ (omega (arith, c.loop-i-test.false)) _ inv.1
+    all_counted_down _ _ _ _ (omega arith) _ inv.1
 
 pub all_below_spec : {M : Type 1} → statement M
 all_below_spec =
     tie.close
-    (tie.spec invariant-loop decreases-loop (λ c κs. search rules) loop-holds (λ c. search rules) number-requires (λ c. search rules) loop-again
+    (tie.spec invariant-loop decreases-loop (λ c κs. search rules) loop-holds (λ c. search rules) number-requires (λ c. search rules) (λ c. let inv = c.loop-i.invariant in ( omega (arith, inv.0), all_no _ _ _ _ (omega (arith, inv.0)) (le-ltb (number c.before.before.before) c.args.limit (omega (arith, c.number.ensures))), ))
     (λ c. search rules) loop-again-2 returns)

@@ -17,18 +17,12 @@ mul-if1 : tie.Need-overflow_mul-n
 unfolding number_count
 mul-if1 c = search rules
 
-returns : tie.Need-returns-then-blocks-n
-returns c = left_over _ _ c.count-n.ensures (search rules)
-
 -- no byte is left over
 whole : (c : tie.Else-blocks-n) → length (counted c).before.before.args.blocks.now ≡ number_size * (counted c).count-n.result
-whole c = omega (arith, c.if-blocks-n.false)
-
-returns-2 : tie.Need-returns-then-n-lt1
-returns-2 c = no_number _ _ c.count-n.ensures (whole c.before) c.if-n-lt1.true
+whole c = omega arith
 
 returns-3 : tie.Need-returns
-returns-3 c = some_numbers _ _ c.count-n.ensures (whole c.before) (omega (arith, c.if-n-lt1.false))
+returns-3 c = some_numbers _ _ c.count-n.ensures (whole c.before) (omega arith)
 
 pub is_list_spec : {M : Type 1} → statement M
-is_list_spec = tie.close (tie.spec (λ c κs. search rules) mul-if1 returns returns-2 returns-3)
+is_list_spec = tie.close (tie.spec (λ c κs. search rules) mul-if1 (λ c. left_over _ _ c.count-n.ensures (search rules)) (λ c. no_number _ _ c.count-n.ensures (whole c.before) c.if-n-lt1.true) returns-3)

@@ -67,22 +67,6 @@ left12 c =
 valid-memory : (c : tie.Else-not-valid) → Valid present (start c.before).args.memory.now
 valid-memory c = facts σ _ (sym c.valid.ensures ∙ c.if-not-valid.false)
 
-invalid : tie.Need-returns-then-not-valid
-invalid c =
-    refused σ (box c.before) (query c.before) _ _ _ _ (all_left σ (box c.before) (query c.before)) c.valid.ensures (ap not c.if-not-valid.true)
-
-disk_size_is : tie.Need-returns-then-not-disk_fits
-disk_size_is c =
-    refused σ (box c.before.before.before) (query c.before.before.before) _ _ _ _ (left1 c.before.before) c.disk_fits.ensures (ap not c.if-not-disk_fits.true)
-
-time : tie.Need-returns-then-not-is_timely
-time c =
-    refused σ (box c.before.before.before.before.before) (query c.before.before.before.before.before) _ _ _ _ (left2 c.before.before) c.is_timely.ensures (ap not c.if-not-is_timely.true)
-
-list-size : tie.Need-returns-then-not-is_list
-list-size c =
-    refused σ (box c.before.before.before.before.before.before.before) (query c.before.before.before.before.before.before.before) _ _ _ _ (left4 c.before.before) c.is_list.ensures (ap not c.if-not-is_list.true)
-
 -- question 5's answer
 ranged : (c : tie.After-all_below)
     → let asked = of_range c in
@@ -102,19 +86,11 @@ cast-limit c =
     let small = data_blocks_small σ c.groups.result (omega (arith, few, c.groups.ensures)) in
     search rules
 
-address : tie.Need-returns-then-not-all_below
-address c =
-    refused σ (box c.before.before.before.before.before.before.before.before.before.before.before) (query c.before.before.before.before.before.before.before.before.before.before.before) _ _ _ _ (left12 c.before.before.before.before) (ranged c.before) (ap not c.if-not-all_below.true)
-
 mul-if6 : tie.Need-overflow_mul-count
 mul-if6 c =
     let yes = sym c.is_list.ensures ∙ c.if-not-is_list.false in
     let few = (list_yes c.args.blocks.now yes).few in
     search rules
-
-answer_length : tie.Need-returns-then-answer-count
-answer_length c =
-    length_wrong σ (box c.before.before.before.before.before.before.before.before.before.before.before.before.before) (query c.before.before.before.before.before.before.before.before.before.before.before.before.before) _ c.count.ensures (left5 c.before.before) c.if-answer-count.true
 
 none : tie.Need-returns
 none c =
@@ -125,19 +101,19 @@ refusal_spec =
     tie.close
     (tie.spec
     (λ c κs. search rules)
-    invalid
+    (λ c. refused σ (box c.before) (query c.before) _ _ _ _ (all_left σ (box c.before) (query c.before)) c.valid.ensures (ap not c.if-not-valid.true))
     (λ c κs. (valid-memory c).size)
-    disk_size_is
+    (λ c. refused σ (box c.before.before.before) (query c.before.before.before) _ _ _ _ (left1 c.before.before) c.disk_fits.ensures (ap not c.if-not-disk_fits.true))
     (λ c κs. (valid-memory c.before.before).size)
-    time
+    (λ c. refused σ (box c.before.before.before.before.before) (query c.before.before.before.before.before) _ _ _ _ (left2 c.before.before) c.is_timely.ensures (ap not c.if-not-is_timely.true))
     (λ c κs. search rules)
-    list-size
+    (λ c. refused σ (box c.before.before.before.before.before.before.before) (query c.before.before.before.before.before.before.before) _ _ _ _ (left4 c.before.before) c.is_list.ensures (ap not c.if-not-is_list.true))
     (λ c κs. (valid-memory c.before.before.before.before.before.before).size)
     (λ c κs. search rules)
     cast-limit
     (λ c κs. search rules)
-    address
+    (λ c. refused σ (box c.before.before.before.before.before.before.before.before.before.before.before) (query c.before.before.before.before.before.before.before.before.before.before.before) _ _ _ _ (left12 c.before.before.before.before) (ranged c.before) (ap not c.if-not-all_below.true))
     (λ c κs. search rules)
     mul-if6
-    answer_length
+    (λ c. length_wrong σ (box c.before.before.before.before.before.before.before.before.before.before.before.before.before) (query c.before.before.before.before.before.before.before.before.before.before.before.before.before) _ c.count.ensures (left5 c.before.before) c.if-answer-count.true)
     none)

@@ -12,15 +12,15 @@ refused c = outcome.refused σ _ _ _ _ _ _ c.refusal-number.ensures c.if-number-
 
 set-last-time-requires : tie.Need-set_last_time-requires
 set-last-time-requires c κs =
-    outcome.size σ _ _ _ _ _ _ c.refusal-number.ensures (omega (arith, c.if-number-ne-ACCEPTED.false))
+    outcome.size σ _ _ _ _ _ _ c.refusal-number.ensures (omega arith)
 
 fill-requires : tie.Need-fill-pages-requires
 fill-requires c κs =
-    outcome.fill_ready σ _ _ _ _ _ _ c.refusal-number.ensures (omega (arith, c.if-number-ne-ACCEPTED.false)) _ c.set_last_time.ensures
+    outcome.fill_ready σ _ _ _ _ _ _ c.refusal-number.ensures (omega arith) _ c.set_last_time.ensures
 
 accepted : tie.Need-returns
 accepted c =
-    outcome.accepted σ _ _ _ _ _ _ c.refusal-number.ensures (omega (arith, c.if-number-ne-ACCEPTED.false)) _ c.set_last_time.ensures _ _
+    outcome.accepted σ _ _ _ _ _ _ c.refusal-number.ensures (omega arith) _ c.set_last_time.ensures _ _
     c.fill-pages.ensures.0 c.fill-pages.ensures.1
 
 pub states_spec : {M : Type 1} → statement M

@@ -17,7 +17,7 @@ refused : tie.Need-returns-then-number-ne-ACCEPTED
 refused c =
     let x = c.args in
     comes_refused σ (kind_numbered x.kind x.value) x.memory.now x.disk.now x.block x.time x.content.now x.proof.now
-    x.answer.now _ c.refusal-number.ensures (λ z. omega (arith, c.if-number-ne-ACCEPTED.true, z)) x.kind x.value refl
+    x.answer.now _ c.refusal-number.ensures (λ z. omega (arith, z)) x.kind x.value refl
 
 carry-out-requires : tie.Need-carry_out-requires
 carry-out-requires c κs =
@@ -25,7 +25,7 @@ carry-out-requires c κs =
     let given = command_of 0 x.block x.time 0 x.content.now x.proof.now x.answer.now in
     ap (λ (k : Kind). first_no (first_questions present k (box_of x.memory.now x.disk.now) given)) c.kind_numbered-k.ensures
     ∙ sym c.refusal-number.ensures
-    ∙ omega (arith, c.if-number-ne-ACCEPTED.false)
+    ∙ omega arith
 
 carried-out : tie.Need-returns
 carried-out c =

@@ -20,20 +20,20 @@ refused : tie.Need-returns-then-unchanged-ne-ACCEPTED
 refused c =
     let x = c.args in
     salt_refused σ x.memory.now x.disk.now x.block x.time x.content.now x.proof.now x.answer.now
-    c.requires _ c.salt_refusal-unchanged.ensures (λ z. omega (arith, c.if-unchanged-ne-ACCEPTED.true, z))
+    c.requires _ c.salt_refusal-unchanged.ensures (λ z. omega (arith, z))
 
 new-salt-requires : tie.Need-new_salt-requires
 new-salt-requires c κs =
     let x = c.args in
     salt_passed σ x.memory.now x.disk.now x.block x.time x.content.now x.proof.now x.answer.now
-    c.requires _ c.salt_refusal-unchanged.ensures (omega (arith, c.if-unchanged-ne-ACCEPTED.false))
+    c.requires _ c.salt_refusal-unchanged.ensures (omega arith)
 
 accepted : tie.Need-returns
 unfolding effect
 accepted c =
     let x = c.args in
     salt_made σ x.memory.now x.disk.now x.block x.time x.content.now x.proof.now x.answer.now
-    c.requires _ c.salt_refusal-unchanged.ensures (omega (arith, c.if-unchanged-ne-ACCEPTED.false)) _ _ _ c.new_salt.ensures
+    c.requires _ c.salt_refusal-unchanged.ensures (omega arith) _ _ _ c.new_salt.ensures
 
 pub new_salt_spec : {M : Type 1} → statement M
 new_salt_spec =

@@ -20,20 +20,20 @@ refused : tie.Need-returns-then-refusal-ne-ACCEPTED
 refused c =
     let x = c.args in
     update_refused σ x.u x.memory.now x.disk.now x.block x.time x.content.now x.proof.now x.answer.now
-    c.requires _ c.refusal-refusal.ensures (λ z. omega (arith, c.if-refusal-ne-ACCEPTED.true, z))
+    c.requires _ c.refusal-refusal.ensures (λ z. omega (arith, z))
 
 change-requires : tie.Need-change-requires
 change-requires c κs =
     let x = c.args in
     update_passed σ x.u x.memory.now x.disk.now x.block x.time x.content.now x.proof.now x.answer.now
-    c.requires _ c.refusal-refusal.ensures (omega (arith, c.if-refusal-ne-ACCEPTED.false))
+    c.requires _ c.refusal-refusal.ensures (omega arith)
 
 accepted : tie.Need-returns
 unfolding effect
 accepted c =
     let x = c.args in
     update_made σ x.u x.memory.now x.disk.now x.block x.time x.content.now x.proof.now x.answer.now
-    c.requires _ c.refusal-refusal.ensures (omega (arith, c.if-refusal-ne-ACCEPTED.false)) _ _ _ c.change.ensures
+    c.requires _ c.refusal-refusal.ensures (omega arith) _ _ _ c.change.ensures
 
 pub update_spec : {M : Type 1} → statement M
 update_spec =

@@ -21,7 +21,7 @@ start c = c.before.before.before.before
 known : (c : tie.Else-number-ne-ACCEPTED)
     → let x = (start c.before).args in
     Formattable present (box_of x.memory.now x.disk.now) x.groups x.salt.now
-known c = formattable σ _ _ _ (sym c.refusal-number.ensures ∙ omega (arith, c.if-number-ne-ACCEPTED.false))
+known c = formattable σ _ _ _ (sym c.refusal-number.ensures ∙ omega arith)
 
 refused : tie.Need-returns-then-number-ne-ACCEPTED
 refused c =
@@ -42,7 +42,7 @@ accepted : tie.Need-returns
 accepted c =
     let x = c.args in
     formatting_accepted σ (box_of x.memory.now x.disk.now) x.groups x.salt.now _ _
-    (sym c.refusal-number.ensures ∙ omega (arith, c.if-number-ne-ACCEPTED.false)) c.format.ensures c.store_blank_pages.ensures
+    (sym c.refusal-number.ensures ∙ omega arith) c.format.ensures c.store_blank_pages.ensures
 
 pub format_spec : {M : Type 1} → statement M
 format_spec =

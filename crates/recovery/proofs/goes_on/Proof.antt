@@ -16,16 +16,6 @@ entry-requires c κs =
     let ready = c.requires in
     ((facts σ _ ready.box.memory).size, has_group_of σ _ _ _ ready.box.disk ready.inside)
 
-returns : tie.Need-returns-then-not-says_kept
-returns c walked are =
-    stops_unkept present _ _ _ _ _ c.requires.inside _ c.entry-e.ensures _ c.says_kept.ensures
-    (ap not c.if-not-says_kept.true) walked
-
-returns-2 : tie.Need-returns-then-e-parent
-returns-2 c walked are =
-    stops_earlier present _ _ _ _ _ c.requires.inside _ c.entry-e.ensures _ c.says_kept.ensures
-    (ap not c.if-not-says_kept.false) c.if-e-parent.true walked
-
 is-marked-requires : tie.Need-is_marked-requires
 is-marked-requires c κs = omega (arith, marks_cover _ _ _ c.requires)
 
@@ -33,8 +23,8 @@ returns-3 : tie.Need-returns
 returns-3 c walked are =
     let ready = c.requires in
     goes present _ _ _ _ _ ready.inside _ c.entry-e.ensures _ c.says_kept.ensures (ap not c.if-not-says_kept.false)
-    (omega (arith, c.if-e-parent.false)) _ (marks_cover _ _ _ ready) _ c.is_marked.ensures walked are
+    (omega arith) _ (marks_cover _ _ _ ready) _ c.is_marked.ensures walked are
 
 pub goes_on_spec : {M : Type 1} → statement M
 goes_on_spec =
-    tie.close (tie.spec entry-requires (λ c κs. search rules) returns returns-2 is-marked-requires returns-3)
+    tie.close (tie.spec entry-requires (λ c κs. search rules) (λ c walked are. stops_unkept present _ _ _ _ _ c.requires.inside _ c.entry-e.ensures _ c.says_kept.ensures (ap not c.if-not-says_kept.true) walked) (λ c walked are. stops_earlier present _ _ _ _ _ c.requires.inside _ c.entry-e.ensures _ c.says_kept.ensures (ap not c.if-not-says_kept.false) c.if-e-parent.true walked) is-marked-requires returns-3)

@@ -18,7 +18,7 @@ returns c = refused present _ _ _ _ c.refusal-number.ensures _ _ c.if-number-ne-
 
 -- all four have yes
 long : (c : tie.Else-number-ne-ACCEPTED) → length (start c.before).args.res.now ≡ result_size
-long c = result_length present _ _ _ _ c.refusal-number.ensures (omega (arith, c.if-number-ne-ACCEPTED.false))
+long c = result_length present _ _ _ _ c.refusal-number.ensures (omega arith)
 
 fill-requires : tie.Need-fill-requires
 fill-requires c κs = omega (arith, long c.before)
@@ -26,13 +26,13 @@ fill-requires c κs = omega (arith, long c.before)
 walk-requires : tie.Need-walk-requires
 walk-requires c κs =
     record {
-      box = box_valid present _ _ _ _ c.refusal-number.ensures (omega (arith, c.if-number-ne-ACCEPTED.false));
+      box = box_valid present _ _ _ _ c.refusal-number.ensures (omega arith);
       empty = result_cleared _ _ (long c.before.before.before.before.before) c.fill.ensures;
     }
 
 returns-2 : tie.Need-returns
 returns-2 c =
-    recovers present _ _ _ _ c.refusal-number.ensures _ _ (omega (arith, c.if-number-ne-ACCEPTED.false)) _ c.walk.ensures
+    recovers present _ _ _ _ c.refusal-number.ensures _ _ (omega arith) _ c.walk.ensures
 
 pub recover_spec : {M : Type 1} → statement M
 recover_spec =

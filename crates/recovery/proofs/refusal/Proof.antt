@@ -11,11 +11,11 @@ returns c = box_refused present _ _ _ _ c.refusal-number.ensures c.if-number-ne-
 
 returns-2 : tie.Need-returns-then-res-ne-RESULT_SIZE
 returns-2 c =
-    length_wrong present _ _ _ _ c.refusal-number.ensures (omega (arith, c.if-number-ne-ACCEPTED.false)) (λ z. omega (arith, c.if-res-ne-RESULT_SIZE.true))
+    length_wrong present _ _ _ _ c.refusal-number.ensures (omega arith) (λ z. omega arith)
 
 returns-3 : tie.Need-returns
 returns-3 c =
-    accepted present _ _ _ _ c.refusal-number.ensures (omega (arith, c.if-number-ne-ACCEPTED.false)) (omega (arith, c.if-res-ne-RESULT_SIZE.false))
+    accepted present _ _ _ _ c.refusal-number.ensures (omega arith) (omega arith)
 
 pub refusal_spec : {M : Type 1} → statement M
 refusal_spec = tie.close (tie.spec (λ c κs. search rules) returns returns-2 returns-3)

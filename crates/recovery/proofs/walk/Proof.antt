@@ -49,10 +49,6 @@ loop-holds c =
 still-long : (c : tie.At-loop-left invariant-loop decreases-loop) → length c.loop-left.res ≡ length (start c).args.res.now
 still-long c = walk_size present _ _ _ _ _ _ _ _ c.loop-left.invariant ∙ sym (ap length c.requires.empty ∙ newests_length _ 0 parts)
 
-returns : tie.Need-returns-then-next-end invariant-loop decreases-loop
-returns c =
-    walk_outside present _ _ _ _ _ _ _ _ c.loop-left.invariant c.loop-left-test.true _ c.end_of-end.ensures c.if-next-end.true
-
 -- what a step asks for
 ready : (c : tie.Else-next-end invariant-loop decreases-loop)
     → let loop = c.before.before in
@@ -61,7 +57,7 @@ ready c =
     record {
       box = c.requires.box;
       marks_size_is = c.loop-left.invariant.marks_size_is;
-      inside = omega (arith, c.if-next-end.false, c.end_of-end.ensures);
+      inside = omega (arith, c.end_of-end.ensures);
     }
 
 has-group : (c : tie.Else-next-end invariant-loop decreases-loop)
@@ -72,10 +68,6 @@ has-group c = has_group_of σ _ _ _ c.requires.box.disk (ready c).inside
 slice-aggregate-goes-on : tie.Need-slice_bounds-goes_on-end invariant-loop decreases-loop
 unfolding data_blocks
 slice-aggregate-goes-on c = sym (ready c.before).marks_size_is
-
-returns-2 : tie.Need-returns-then-not-goes_on invariant-loop decreases-loop
-returns-2 c =
-    walk_stop present _ _ _ _ _ _ _ _ c.loop-left.invariant c.loop-left-test.true _ c.goes_on.ensures (ap not c.if-not-goes_on.true)
 
 slice-aggregate-mark : tie.Need-slice_bounds-mark-end invariant-loop decreases-loop
 unfolding data_blocks
@@ -117,12 +109,12 @@ loop-again c =
     c.entry-parent.ensures c.load_u64-next.ensures
 
 returns-3 : tie.Need-returns invariant-loop decreases-loop
-returns-3 c = walk_end present _ _ _ _ _ _ _ _ c.loop-left.invariant (omega (arith, c.loop-left-test.false))
+returns-3 c = walk_end present _ _ _ _ _ _ _ _ c.loop-left.invariant (omega arith)
 
 pub walk_spec : {M : Type 1} → statement M
 walk_spec =
     tie.close
-    (tie.spec invariant-loop decreases-loop end-of-requires (λ c. search rules) loop-holds (λ c. search rules) (λ c. still-long c.before.before) returns
-    (λ c. search rules) slice-aggregate-goes-on (λ c κs. ready c.before) (λ c. still-long c.before.before.before.before.before) returns-2
+    (tie.spec invariant-loop decreases-loop end-of-requires (λ c. search rules) loop-holds (λ c. search rules) (λ c. still-long c.before.before) (λ c. walk_outside present _ _ _ _ _ _ _ _ c.loop-left.invariant c.loop-left-test.true _ c.end_of-end.ensures c.if-next-end.true)
+    (λ c. search rules) slice-aggregate-goes-on (λ c κs. ready c.before) (λ c. still-long c.before.before.before.before.before) (λ c. walk_stop present _ _ _ _ _ _ _ _ c.loop-left.invariant c.loop-left-test.true _ c.goes_on.ensures (ap not c.if-not-goes_on.true))
     slice-aggregate-mark mark-requires entry-requires lend-block-requires load-u64-requires take-records-requires (λ c. search rules)
     (λ c. search rules) loop-again (λ c. still-long c.before) returns-3)

@@ -18,25 +18,25 @@ decreases-loop memory₀ disk₀ piece out₀ p₀ i₀ memory disk out p i = le
 not_taken : tie.Need-returns-then-out-piece invariant-loop decreases-loop
 not_taken c =
     let x = c.args in
-    feeding_none x.reader (box_of x.memory.now x.disk.now) x.piece.now x.out.now _ refl refl (omega (arith, c.if-out-piece.true))
+    feeding_none x.reader (box_of x.memory.now x.disk.now) x.piece.now x.out.now _ refl refl (omega arith)
 
 loop-holds : tie.Need-loop-i-init invariant-loop decreases-loop
 loop-holds c =
     let x = c.args in
-    feeding_start x.reader (box_of x.memory.now x.disk.now) x.piece.now x.out.now _ refl refl (omega (arith, c.if-out-piece.false))
+    feeding_start x.reader (box_of x.memory.now x.disk.now) x.piece.now x.out.now _ refl refl (omega arith)
 
 read-byte-requires : tie.Need-read_byte-p-requires invariant-loop decreases-loop
 read-byte-requires c κs =
     let inv = c.loop-i.invariant in
-    omega (arith, feeding_size _ _ _ _ _ _ _ _ inv, inv.inside, c.loop-i-test.true)
+    omega (arith, feeding_size _ _ _ _ _ _ _ _ inv, inv.inside)
 
 loop-again : tie.Need-loop-i-preserved invariant-loop decreases-loop
 loop-again c =
-    feeding_step _ _ _ _ _ _ _ _ c.loop-i.invariant _ _ _ _ (omega (arith, c.loop-i-test.true)) refl c.read_byte-p.ensures
+    feeding_step _ _ _ _ _ _ _ _ c.loop-i.invariant _ _ _ _ (omega arith) refl c.read_byte-p.ensures
 
 returns : tie.Need-returns invariant-loop decreases-loop
 returns c =
-    feeding_end _ _ _ _ _ _ _ _ c.loop-i.invariant (omega (arith, c.if-out-piece.false)) (omega (arith, c.loop-i-test.false))
+    feeding_end _ _ _ _ _ _ _ _ c.loop-i.invariant (omega arith) (omega arith)
 
 pub feed_spec : {M : Type 1} → statement M
 feed_spec =

@@ -29,13 +29,13 @@ other c =
 refused : tie.Need-returns-then-number-ne-ACCEPTED
 unfolding buffer repeated
 refused c =
-    sent_refused _ _ _ _ _ (outcome c.before.before.before.before) c.command-number.ensures (omega (arith, c.if-v-ne-ENTRY_KIND.false)) c.if-number-ne-ACCEPTED.true
+    sent_refused _ _ _ _ _ (outcome c.before.before.before.before) c.command-number.ensures (omega arith) c.if-number-ne-ACCEPTED.true
 
 entry : tie.Need-returns
 unfolding buffer repeated
 entry c =
-    sent_entry _ _ _ _ _ (outcome c.before.before.before.before.before.before.before.before) c.command-number.ensures (omega (arith, c.if-v-ne-ENTRY_KIND.false))
-    (omega (arith, c.if-number-ne-ACCEPTED.false)) _ _ c.load_u8-state.ensures
+    sent_entry _ _ _ _ _ (outcome c.before.before.before.before.before.before.before.before) c.command-number.ensures (omega arith)
+    (omega arith) _ _ c.load_u8-state.ensures
     (to_z-of_z w64 c.load_i64-left.result (search rules) ∙ c.load_i64-left.ensures)
 
 pub send_spec : {M : Type 1} → statement M

@@ -10,7 +10,7 @@ last : tie.Need-returns-then-n-eq18446744073709551615
 last c = c.if-n-eq18446744073709551615.true ∙ sym (ap next_number c.if-n-eq18446744073709551615.true ∙ number_last)
 
 more : tie.Need-returns
-more c = omega (arith, number_next c.args.n (omega (arith, c.if-n-eq18446744073709551615.false, c.ranges.n.fits)))
+more c = omega (arith, number_next c.args.n (omega (arith, c.ranges.n.fits)))
 
 pub next_number_spec : {M : Type 1} → statement M
-next_number_spec = tie.close (tie.spec last (λ c. record { fits = omega (arith, c.if-n-eq18446744073709551615.false, c.ranges.n.fits) }) more)
+next_number_spec = tie.close (tie.spec last (λ c. record { fits = omega (arith, c.ranges.n.fits) }) more)

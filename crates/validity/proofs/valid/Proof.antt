@@ -38,10 +38,10 @@ passed c =
     let two = three.before in
     let groups = two.before.groups-groups.ensures in
     record {
-      size = omega (arith, two.before.before.if-memory-ne-MEMORY_SIZE.false);
-      least = omega (arith, two.if-groups-lt1.false, groups);
-      most = omega (arith, three.if-groups-gt-MOST_GROUPS.false, groups);
-      time = omega (arith, four.if-last_time-gt-LATEST_TIME.false, four.before.last_time.ensures);
+      size = omega arith;
+      least = omega (arith, groups);
+      most = omega (arith, groups);
+      time = omega (arith, four.before.last_time.ensures);
       unused = counts_unused σ _ _ _ groups (compared c).are_unused.ensures (ap not five.if-not-are_unused.false);
       reserved = reserved_zero σ _ _ c.before.filled.ensures (ap not c.if-not-filled.false);
     }
@@ -52,9 +52,9 @@ held c = held_decides σ _ _ (passed c.before) c.valid_held.ensures
 pub valid_spec : {M : Type 1} → statement M
 valid_spec =
     tie.close
-    (tie.spec (λ c. invalid σ _ (λ v. omega (arith, c.if-memory-ne-MEMORY_SIZE.true, v.size))) (λ c κs. search rules)
-    (λ c. invalid σ _ (λ v. omega (arith, c.if-groups-lt1.true, c.before.groups-groups.ensures, v.least)))
-    (λ c. invalid σ _ (λ v. omega (arith, c.if-groups-gt-MOST_GROUPS.true, c.before.before.groups-groups.ensures, v.most))) (λ c κs. search rules)
-    (λ c. invalid σ _ (λ v. omega (arith, c.if-last_time-gt-LATEST_TIME.true, c.before.last_time.ensures, v.time))) (λ c κs. search rules) unused
+    (tie.spec (λ c. invalid σ _ (λ v. omega (arith, v.size))) (λ c κs. search rules)
+    (λ c. invalid σ _ (λ v. omega (arith, c.before.groups-groups.ensures, v.least)))
+    (λ c. invalid σ _ (λ v. omega (arith, c.before.before.groups-groups.ensures, v.most))) (λ c κs. search rules)
+    (λ c. invalid σ _ (λ v. omega (arith, c.before.last_time.ensures, v.time))) (λ c κs. search rules) unused
     (λ c κs. search rules) (λ c. reserved_used σ _ _ c.before.filled.ensures (ap not c.if-not-filled.true))
     (λ c κs. search rules) held)

@@ -8,18 +8,6 @@ use Rattle.validity.proofs.valid_held.Tie as tie
 
 -- ---- none held
 
-none-counted : tie.Need-returns-then-updates-ne0
-none-counted c =
-    let read = c.before.before in
-    none_updated σ _ _ _ read.before.held-group.ensures read.update_count-updates.ensures c.before.if-group.true c.if-updates-ne0.true
-
-none-decides : tie.Need-returns-then-group
-none-decides c =
-    let left = c.before in
-    let read = left.before.before in
-    page_decides σ _ _ _ read.before.held-group.ensures read.update_count-updates.ensures left.before.if-group.true _ left.if-updates-ne0.false
-    c.is_zero.ensures
-
 -- ---- a group held: the states on the way back, its count read, its number tested
 
 abbrev ranged : tie.After-count-count → tie.Else-groups-group
@@ -27,35 +15,6 @@ ranged c = c.before
 
 abbrev tested : tie.Else-groups-group → tie.Else-group
 tested c = c.before.before
-
-out : tie.Need-returns-then-groups-group
-out c =
-    let some = c.before.before in
-    let read = some.before in
-    held_out σ _ _ _ read.before.held-group.ensures read.update_count-updates.ensures some.if-group.false _ c.before.groups-groups.ensures
-    (omega (arith, c.if-groups-group.true))
-
-uncounted : tie.Need-returns-then-count-lt1
-uncounted c =
-    let counted = c.before in
-    let some = tested (ranged counted) in
-    let read = some.before in
-    held_uncounted σ _ _ _ read.before.held-group.ensures read.update_count-updates.ensures some.if-group.false _ counted.count-count.ensures
-    (omega (arith, c.if-count-lt1.true))
-
-exhausted : tie.Need-returns-then-count-gt-COUNT_LIMIT
-exhausted c =
-    let counted = c.before.before in
-    let some = tested (ranged counted) in
-    let read = some.before in
-    held_exhausted σ _ _ _ read.before.held-group.ensures read.update_count-updates.ensures some.if-group.false _ counted.count-count.ensures
-    (omega (arith, c.if-count-gt-COUNT_LIMIT.true))
-
-not-updated : tie.Need-returns-then-updates-lt1
-not-updated c =
-    let some = tested (ranged c.before.before.before) in
-    let read = some.before in
-    held_not_updated σ _ _ _ read.before.held-group.ensures read.update_count-updates.ensures some.if-group.false (omega (arith, c.if-updates-lt1.true))
 
 few : tie.Need-returns
 few c =
@@ -65,16 +24,16 @@ few c =
     let some = tested three in
     let read = some.before in
     updates_decide σ _ _ _ read.before.held-group.ensures read.update_count-updates.ensures some.if-group.false _ counted.count-count.ensures _
-    three.before.groups-groups.ensures (omega (arith, three.if-groups-group.false)) (omega (arith, five.before.if-count-lt1.false)) (omega (arith, five.if-count-gt-COUNT_LIMIT.false))
-    (omega (arith, c.if-updates-lt1.false))
+    three.before.groups-groups.ensures (omega arith) (omega arith) (omega arith)
+    (omega arith)
 
 count-requires : tie.Need-count-count-requires
 count-requires c κs =
     let start = (tested c).before.before.before.before in
-    record { size = start.requires.0; group = omega (arith, c.if-groups-group.false, c.before.groups-groups.ensures, start.requires.1) }
+    record { size = start.requires.0; group = omega (arith, c.before.groups-groups.ensures, start.requires.1) }
 
 pub valid_held_spec : {M : Type 1} → statement M
 valid_held_spec =
     tie.close
-    (tie.spec (λ c κs. search rules) (λ c κs. search rules) (λ c. search rules) none-counted (λ c κs. search rules) none-decides
-    (λ c κs. search rules) out count-requires uncounted exhausted not-updated few)
+    (tie.spec (λ c κs. search rules) (λ c κs. search rules) (λ c. search rules) (λ c. let read = c.before.before in none_updated σ _ _ _ read.before.held-group.ensures read.update_count-updates.ensures c.before.if-group.true c.if-updates-ne0.true) (λ c κs. search rules) (λ c. let left = c.before in let read = left.before.before in page_decides σ _ _ _ read.before.held-group.ensures read.update_count-updates.ensures left.before.if-group.true _ left.if-updates-ne0.false c.is_zero.ensures)
+    (λ c κs. search rules) (λ c. let some = c.before.before in let read = some.before in held_out σ _ _ _ read.before.held-group.ensures read.update_count-updates.ensures some.if-group.false _ c.before.groups-groups.ensures (omega arith)) count-requires (λ c. let counted = c.before in let some = tested (ranged counted) in let read = some.before in held_uncounted σ _ _ _ read.before.held-group.ensures read.update_count-updates.ensures some.if-group.false _ counted.count-count.ensures (omega arith)) (λ c. let counted = c.before.before in let some = tested (ranged counted) in let read = some.before in held_exhausted σ _ _ _ read.before.held-group.ensures read.update_count-updates.ensures some.if-group.false _ counted.count-count.ensures (omega arith)) (λ c. let some = tested (ranged c.before.before.before) in let read = some.before in held_not_updated σ _ _ _ read.before.held-group.ensures read.update_count-updates.ensures some.if-group.false (omega arith)) few)

@@ -11,22 +11,22 @@ use Rattle.versions.proofs.block.Statement.{statement}
 use Rattle.versions.proofs.block.Tie as tie
 
 other_part : tie.Need-returns-then-part-gt-LAST_PART
-other_part c = no_part σ _ _ _ _ (omega (arith, c.if-part-gt-LAST_PART.true)) c.refused.ensures.0 c.refused.ensures.1
+other_part c = no_part σ _ _ _ _ (omega arith) c.refused.ensures.0 c.refused.ensures.1
 
 invalid : tie.Need-returns-then-not-valid
 invalid c =
-    no_state σ _ _ (omega (arith, c.if-part-gt-LAST_PART.false)) _ c.valid.ensures _ _ (ap not c.if-not-valid.true) c.refused-then-not-valid.ensures.0
+    no_state σ _ _ (omega arith) _ c.valid.ensures _ _ (ap not c.if-not-valid.true) c.refused-then-not-valid.ensures.0
     c.refused-then-not-valid.ensures.1
 
 newest-requires : tie.Need-newest-requires
 newest-requires c κs = (
   (facts present _ (sym c.valid.ensures ∙ c.if-not-valid.false)).size,
-  omega (arith, c.if-part-gt-LAST_PART.false),
+  omega arith,
 )
 
 located : tie.Need-returns
 located c =
-    found σ _ _ (omega (arith, c.if-part-gt-LAST_PART.false)) _ c.valid.ensures _ (c.if-not-valid.false) c.newest.ensures
+    found σ _ _ (omega arith) _ c.valid.ensures _ (c.if-not-valid.false) c.newest.ensures
 
 pub block_spec : {M : Type 1} → statement M
 block_spec = tie.close (tie.spec (λ c κs. search rules) other_part (λ c κs. search rules) (λ c κs. search rules) invalid newest-requires located)

@@ -73,7 +73,7 @@ refused-second c =
     let s = start (first asked) in
     let x = c.args in
     second_refused present (number s) (counts s) (entries s) x.block x.time x.lock x.content.now (block_named x.replaced) x.due x.reserve
-    _ (written (first asked)) (omega (arith, c.if-first-ne-ACCEPTED.false)) _ c.unfreeze_refusal-second.ensures c.if-second-ne-ACCEPTED.true
+    _ (written (first asked)) (omega arith) _ c.unfreeze_refusal-second.ensures c.if-second-ne-ACCEPTED.true
 
 not-due : tie.Need-returns-then-not-due
 not-due c =
@@ -81,7 +81,7 @@ not-due c =
     let s = start (first asked) in
     let x = c.args in
     log_not_due present (number s) (counts s) (entries s) x.block x.time x.lock x.content.now (block_named x.replaced) x.due x.reserve
-    _ (written (first asked)) (omega (arith, c.if-first-ne-ACCEPTED.false)) _ c.unfreeze_refusal-second.ensures (omega (arith, c.if-second-ne-ACCEPTED.false))
+    _ (written (first asked)) (omega arith) _ c.unfreeze_refusal-second.ensures (omega arith)
     c.if-not-due.true
 
 log-refusal-requires : tie.Need-log_refusal-requires
@@ -96,8 +96,8 @@ log-refusal-requires c κs =
       other = other;
       within =
           unfrozen_within present (number s) (counts s) (entries s) x.block x.time x.lock x.content.now (block_named x.replaced) x.due
-          x.reserve _ (written (first asked)) (omega (arith, c.if-first-ne-ACCEPTED.false)) _ c.unfreeze_refusal-second.ensures
-          (omega (arith, c.if-second-ne-ACCEPTED.false)) other;
+          x.reserve _ (written (first asked)) (omega arith) _ c.unfreeze_refusal-second.ensures
+          (omega arith) other;
     }
 
 due : tie.Need-returns
@@ -106,7 +106,7 @@ due c =
     let s = start (first asked) in
     let x = c.args in
     log_due present (number s) (counts s) (entries s) x.block x.time x.lock x.content.now (block_named x.replaced) x.due x.reserve
-    _ (written (first asked)) (omega (arith, c.if-first-ne-ACCEPTED.false)) _ c.unfreeze_refusal-second.ensures (omega (arith, c.if-second-ne-ACCEPTED.false))
+    _ (written (first asked)) (omega arith) _ c.unfreeze_refusal-second.ensures (omega arith)
     c.if-not-due.false _ c.log_refusal.ensures
 
 pub forecast_spec : {M : Type 1} → statement M

@@ -31,14 +31,14 @@ length_wrong c = let s = c.before.before.before in no_6 (size s) (block_size pre
 none : tie.Need-returns-then-count-lt-COUNT_LIMIT
 none c =
     let sized = c.before.before.before in
-    none_no (size (start sized)) (block_size present) (number (start sized)) (omega (arith, c.if-content-ne-BLOCK_SIZE.false))
-    (omega (arith, counted c.before, c.if-count-lt-COUNT_LIMIT.true))
+    none_no (size (start sized)) (block_size present) (number (start sized)) (omega arith)
+    (omega (arith, counted c.before))
 
 exhausted : tie.Need-returns
 exhausted c =
     let sized = c.before.before.before in
-    no_8 (size (start sized)) (block_size present) (number (start sized)) (omega (arith, c.if-content-ne-BLOCK_SIZE.false))
-    (omega (arith, counted c.before, c.if-count-lt-COUNT_LIMIT.false))
+    no_8 (size (start sized)) (block_size present) (number (start sized)) (omega arith)
+    (omega (arith, counted c.before))
 
 pub write_refusal_spec : {M : Type 1} → statement M
 write_refusal_spec = tie.close (tie.spec length_wrong (λ c κs. search rules) (λ c κs. search rules) none exhausted)

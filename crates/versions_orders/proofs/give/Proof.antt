@@ -28,16 +28,7 @@ blocks-of c = c.data_blocks.ensures ∙ ap (data_blocks present) c.groups.ensure
 
 -- the block is one of them
 below : (c : tie.Else-block-data_blocks) → (start c.before).args.block < data_blocks present (groups present (start c.before).args.memory.now)
-below c = omega (arith, c.if-block-data_blocks.false, blocks-of c.before)
-
-no-such-block : tie.Need-returns-then-block-data_blocks
-no-such-block c = no_block σ _ _ _ _ _ c.requires (omega (arith, c.if-block-data_blocks.true, blocks-of c.before))
-
-not-sized : tie.Need-returns-then-content-content_length
-not-sized c =
-    let x = c.args in
-    wrong_length σ (box_of x.memory.now x.disk.now) x.u x.block x.time x.content.now c.requires
-    (below c.before.before) (λ e. omega (arith, c.if-content-content_length.true, c.content_length.ensures, e))
+below c = omega (arith, blocks-of c.before)
 
 bring-requires : tie.Need-bring-requires
 bring-requires c κs =
@@ -49,7 +40,7 @@ update-requires c κs =
     let x = c.args in
     first_asked σ (box_of x.memory.now x.disk.now) x.u x.block x.time x.content.now c.bring.new.proof
     (repeated (answer_size present) 0) c.requires (below c.before.before.before.before.before.before.before.before.before)
-    (omega (arith, c.if-content-content_length.false, c.content_length.ensures)) (search rules) (repeated_length (answer_size present) 0)
+    (omega (arith, c.content_length.ensures)) (search rules) (repeated_length (answer_size present) 0)
 
 was-carried-out : tie.Need-returns
 unfolding repeated
@@ -61,5 +52,5 @@ was-carried-out c =
 pub give_spec : {M : Type 1} → statement M
 give_spec =
     tie.close
-    (tie.spec groups-requires (λ c κs. search rules) (λ c. search rules) no-such-block (λ c κs. search rules) (λ c. search rules) not-sized
+    (tie.spec groups-requires (λ c κs. search rules) (λ c. search rules) (λ c. no_block σ _ _ _ _ _ c.requires (omega (arith, blocks-of c.before))) (λ c κs. search rules) (λ c. search rules) (λ c. let x = c.args in wrong_length σ (box_of x.memory.now x.disk.now) x.u x.block x.time x.content.now c.requires (below c.before.before) (λ e. omega (arith, c.content_length.ensures, e)))
     (λ c. search rules) bring-requires (λ c. search rules) (λ c. search rules) update-requires (λ c. search rules) (λ c. search rules) was-carried-out)

@@ -8,14 +8,14 @@ use Rattle.versions_state.proofs.valid.Statement.{statement}
 use Rattle.versions_state.proofs.valid.Tie as tie
 
 returns : tie.Need-returns-then-state-ne-STATE_SIZE
-returns c = refused present _ (λ f. omega (arith, f.size, c.if-state-ne-STATE_SIZE.true))
+returns c = refused present _ (λ f. omega (arith, f.size))
 
 returns-2 : tie.Need-returns-then-not-is_lock
 returns-2 c =
     refused_by_lem present _ _ _ (lock_looked present _ _ _ c.lock.ensures c.is_lock.ensures) c.if-not-is_lock.true (λ f. f.lock)
 
 returns-3 : tie.Need-returns-then-n-gt-MOST_RECORDS
-returns-3 c = refused present _ (λ f. omega (arith, f.few, c.record_count-n.ensures, c.if-n-gt-MOST_RECORDS.true))
+returns-3 c = refused present _ (λ f. omega (arith, f.few, c.record_count-n.ensures))
 
 returns-4 : tie.Need-returns-then-not-newests_fit
 returns-4 c = refused_by_lem present _ _ _ c.newests_fit.ensures c.if-not-newests_fit.true (λ f. f.newests)
@@ -28,10 +28,10 @@ returns-5 c =
 returns-6 : tie.Need-returns
 returns-6 c =
     rest_counted present _ _ c.record_count-n.ensures _ _ _ c.record_start.ensures refl c.filled.ensures
-    ∙ decided present _ (omega (arith, c.if-state-ne-STATE_SIZE.false))
+    ∙ decided present _ (omega arith)
     (makes_sound present _
     (sym (lock_looked present _ _ _ c.lock.ensures c.is_lock.ensures) ∙ c.if-not-is_lock.false)
-    (omega (arith, c.record_count-n.ensures, c.if-n-gt-MOST_RECORDS.false)))
+    (omega (arith, c.record_count-n.ensures)))
     (sym c.newests_fit.ensures ∙ c.if-not-newests_fit.false)
     (sym (records_counted present _ _ c.record_count-n.ensures _ c.records_fit.ensures)
     ∙ c.if-not-records_fit.false)

@@ -7,14 +7,11 @@ use Rattle.write_back.proofs.HeldLaw.{none_evicted, held_evicted}
 use Rattle.write_back.proofs.evict.Statement.{statement}
 use Rattle.write_back.proofs.evict.Tie as tie
 
-same : tie.Need-returns-then-held-group
-same c = none_evicted σ _ _ c.held.ensures _ _ (omega (arith, c.if-held-group.true))
-
 other : tie.Need-returns
 other c =
-    held_evicted σ _ _ c.held.ensures _ _ _ (λ e. omega (arith, c.if-held-group.false)) c.put_held.ensures
+    held_evicted σ _ _ c.held.ensures _ _ _ (λ e. omega arith) c.put_held.ensures
 
 pub evict_spec : {M : Type 1} → statement M
 evict_spec =
     tie.close
-    (tie.spec (λ c κs. (facts σ _ c.requires.memory).size) same (λ c κs. search rules) (λ c. search rules) other)
+    (tie.spec (λ c κs. (facts σ _ c.requires.memory).size) (λ c. none_evicted σ _ _ c.held.ensures _ _ (omega arith)) (λ c κs. search rules) (λ c. search rules) other)

@@ -29,7 +29,7 @@ has c =
 hold-requires : tie.Need-hold-requires
 hold-requires c κs =
     let size = (has c.before.before.before.before.before.before.before.before.before.before.before).size in
-    (record { count = record { size = search rules; group = (has c.before.before.before.before.before.before.before.before.before.before.before).group }; page_size_is = c.requires.page_size_is }, omega (arith, c.if-updates-le-MOST_UPDATES.true))
+    (record { count = record { size = search rules; group = (has c.before.before.before.before.before.before.before.before.before.before.before).group }; page_size_is = c.requires.page_size_is }, omega arith)
 
 store-page-requires : tie.Need-store_page-requires
 store-page-requires c κs =
@@ -43,16 +43,16 @@ hold-none-requires c κs =
 held : tie.Need-returns-then-updates-le-MOST_UPDATES
 held c =
     let next = c.next_update-updates.ensures in (
-      staying_held σ _ _ _ next (omega (arith, c.if-updates-le-MOST_UPDATES.true)) _ _ _ _ c.count-count.ensures c.set_count.ensures c.hold.ensures,
-      staying_put σ _ _ _ next (omega (arith, c.if-updates-le-MOST_UPDATES.true)) _ _,
+      staying_held σ _ _ _ next (omega arith) _ _ _ _ c.count-count.ensures c.set_count.ensures c.hold.ensures,
+      staying_put σ _ _ _ next (omega arith) _ _,
     )
 
 left : tie.Need-returns
 left c =
     let next = c.next_update-updates.ensures in (
-      leaving_held σ _ _ _ next (omega (arith, c.if-updates-le-MOST_UPDATES.false)) _ _ _ _ c.count-count.ensures c.set_count.ensures
+      leaving_held σ _ _ _ next (omega arith) _ _ _ _ c.count-count.ensures c.set_count.ensures
           c.hold_none.ensures,
-      leaving_put σ _ _ _ next (omega (arith, c.if-updates-le-MOST_UPDATES.false)) _ _ _ c.store_page.ensures,
+      leaving_put σ _ _ _ next (omega arith) _ _ _ c.store_page.ensures,
     )
 
 pub hold_or_put_spec : {M : Type 1} → statement M

@@ -17,9 +17,6 @@ tested c = c.before.before
 valid : (c : tie.Else-held) → Valid present (start c).args.memory.now
 valid c = facts σ _ c.requires.memory
 
-none : tie.Need-returns-then-held
-none c = none_put σ _ _ c.held-held.ensures _ c.if-held.true
-
 copy-page-requires : tie.Need-copy_page-requires
 copy-page-requires c κs =
     let size = (valid c.before).size in
@@ -40,5 +37,5 @@ some c =
 pub put_held_spec : {M : Type 1} → statement M
 put_held_spec =
     tie.close
-    (tie.spec (λ c κs. (facts σ _ c.requires.memory).size) (λ c. search rules) none (λ c. search rules) copy-page-requires
+    (tie.spec (λ c κs. (facts σ _ c.requires.memory).size) (λ c. search rules) (λ c. none_put σ _ _ c.held-held.ensures _ c.if-held.true) (λ c. search rules) copy-page-requires
     (λ c. search rules) store-page-requires (λ c. search rules) some)

@@ -73,7 +73,7 @@ same_length c = c.loop-i.invariant.size
 
 returns : tie.Need-returns invariant-loop decreases-loop
 returns c =
-    walk_end present _ _ _ _ _ _ c.requires _ _ c.loop-i.invariant (omega (arith, c.loop-i-test.false))
+    walk_end present _ _ _ _ _ _ c.requires _ _ c.loop-i.invariant (omega arith)
 
 pub answer_group_spec : {M : Type 1} → statement M
 answer_group_spec =

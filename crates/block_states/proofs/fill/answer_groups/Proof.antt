@@ -45,7 +45,7 @@ loop-holds c =
 
 shared-slice-read-group : tie.Need-bounds-named-k invariant-loop decreases-loop
 shared-slice-read-group c =
-    omega (arith, c.loop-k-test.true, count_few σ (box c.before.before) _ _ _ _ _ _ c.requires, c.requires.links.named_size)
+    omega (arith, count_few σ (box c.before.before) _ _ _ _ _ _ c.requires, c.requires.links.named_size)
 
 cast-fetch : tie.Need-overflow_cast-group invariant-loop decreases-loop
 cast-fetch c =
@@ -87,7 +87,7 @@ answer-group-requires c κs =
 
 loop-again : tie.Need-loop-k-preserved invariant-loop decreases-loop
 loop-again c = (
-  omega (arith, c.loop-k-test.true),
+  omega arith,
   filled_step σ (box c.before.before.before.before.before.before.before.before.before.before.before) _ _ _ _ _ _ c.requires c.loop-k.k c.loop-k-test.true _ _ _ _ _ _ _ _ c.loop-k.invariant.1
       c.fetch-pages.ensures.1 (search rules) (ap (λ (n : ℕ). c.loop-k.pages + n) c.fetch-pages.ensures.0) refl c.answer_group.ensures,
 )

@@ -32,7 +32,7 @@ abbrev place : tie.At-loop-i invariant-loop decreases-loop → ℕ
 place c = c.loop-i.i - 1
 
 inside : (c : tie.In-loop-i invariant-loop decreases-loop) → place c.before < number_count (list c.before)
-inside c = omega (arith, c.loop-i-test.true, c.loop-i.invariant.0)
+inside c = omega (arith, c.loop-i.invariant.0)
 
 -- its group
 abbrev group : tie.At-loop-i invariant-loop decreases-loop → ℕ
@@ -86,7 +86,7 @@ cast-named c =
 named-few : (c : tie.In-loop-i invariant-loop decreases-loop) → c.before.loop-i.groups < most_numbers
 named-few c =
     let inv = c.loop-i.invariant in
-    omega (arith, c.loop-i-test.true, inv.0, linked_few _ _ _ _ _ _ _ _ inv.1, c.requires.list.few)
+    omega (arith, inv.0, linked_few _ _ _ _ _ _ _ _ inv.1, c.requires.list.few)
 
 slice-write-named : tie.Need-bounds-named-groups invariant-loop decreases-loop
 slice-write-named c =
@@ -134,9 +134,9 @@ loop-again c =
     let few = c.requires.list.few in (
       omega (arith, inside c.before.before.before.before.before),
       elim c.if-first-group-eq-MOST_NUMBERS.branch [
-        | then-first-group-eq-MOST_NUMBERS new ↦ turn_new _ _ _ _ _ _ _ _ _ _ inv.1 (omega (arith, c.loop-i-test.true)) inv.0 few (group-is c.before.before.before) (group_known c.before.before.before) _ _
+        | then-first-group-eq-MOST_NUMBERS new ↦ turn_new _ _ _ _ _ _ _ _ _ _ inv.1 (omega arith) inv.0 few (group-is c.before.before.before) (group_known c.before.before.before) _ _
             new.if-first-group-eq-MOST_NUMBERS.true new.named-is new.groups-is
-        | else-first-group-eq-MOST_NUMBERS seen ↦ turn_seen _ _ _ _ _ _ _ _ _ _ inv.1 (omega (arith, c.loop-i-test.true)) inv.0 few (group-is c.before.before.before) (group_known c.before.before.before) _ _
+        | else-first-group-eq-MOST_NUMBERS seen ↦ turn_seen _ _ _ _ _ _ _ _ _ _ inv.1 (omega arith) inv.0 few (group-is c.before.before.before) (group_known c.before.before.before) _ _
             seen.if-first-group-eq-MOST_NUMBERS.false seen.named-is seen.groups-is
       ],
     )
@@ -146,7 +146,7 @@ same_length c =
     c.loop-i.invariant.1.heads_size ∙ sym (ap length c.requires.heads ∙ repeated_length present.most_groups most_numbers)
 
 returns : tie.Need-returns invariant-loop decreases-loop
-returns c = linked_end _ _ _ _ _ _ _ _ (omega (arith, c.loop-i-test.false)) c.loop-i.invariant.1
+returns c = linked_end _ _ _ _ _ _ _ _ (omega arith) c.loop-i.invariant.1
 
 pub link_spec : {M : Type 1} → statement M
 link_spec =

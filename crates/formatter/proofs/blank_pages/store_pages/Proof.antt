@@ -27,16 +27,16 @@ start c = c.before.before.before
 
 store-page-requires : tie.Need-store_page-requires invariant-loop decreases-loop
 store-page-requires c κs = (
-  has_group σ c.loop-g.disk c.args.groups c.loop-g.g c.loop-g.invariant.1.0 (omega (arith, c.loop-g-test.true)),
+  has_group σ c.loop-g.disk c.args.groups c.loop-g.g c.loop-g.invariant.1.0 (omega arith),
   ap length c.requires.blank ∙ blank_page_length σ,
 )
 
 loop-again : tie.Need-loop-g-preserved invariant-loop decreases-loop
 loop-again c =
     let page = c.requires.blank in (
-      omega (arith, c.loop-g-test.true),
+      omega arith,
       (
-        page_fits σ _ _ _ _ _ c.loop-g.invariant.1.0 (omega (arith, c.loop-g-test.true)) page c.store_page.ensures,
+        page_fits σ _ _ _ _ _ c.loop-g.invariant.1.0 (omega arith) page c.store_page.ensures,
         pages_step σ _ _ _ _ _ page c.loop-g.invariant.1.1 c.store_page.ensures,
       ),
     )
@@ -44,7 +44,7 @@ loop-again c =
 returns : tie.Need-returns invariant-loop decreases-loop
 returns c =
     let inv = c.loop-g.invariant in
-    pages_end σ _ _ _ _ (omega (arith, c.loop-g-test.false, inv.0)) inv.1.1
+    pages_end σ _ _ _ _ (omega (arith, inv.0)) inv.1.1
 
 pub store_pages_spec : {M : Type 1} → statement M
 store_pages_spec =

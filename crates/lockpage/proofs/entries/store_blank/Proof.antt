@@ -27,14 +27,14 @@ loop-again c =
       search rules,
       (
         search rules,
-        repeated_entry_step σ _ _ _ _ _ inside (omega (arith, test.loop-i-test.true)) loop.loop-i.invariant.1.1 stored.store_entry.ensures,
+        repeated_entry_step σ _ _ _ _ _ inside (omega arith) loop.loop-i.invariant.1.1 stored.store_entry.ensures,
       ),
     )
 
 returns : tie.Need-returns invariant-loop decreases-loop
 returns c =
     let inv = c.before.loop-i.invariant in
-    repeated_entry_end σ _ _ _ c.before.before.before.requires (omega (arith, c.loop-i-test.false, inv.0)) inv.1.1
+    repeated_entry_end σ _ _ _ c.before.before.before.requires (omega (arith, inv.0)) inv.1.1
 
 pub store_blank_spec : {M : Type 1} → statement M
 store_blank_spec =

@@ -5,18 +5,10 @@ use Rattle.lockpage.proofs.StateLaw.{state_frozen, state_counting, state_free}
 use Rattle.lockpage.proofs.states.state.Statement.{statement}
 use Rattle.lockpage.proofs.states.state.Tie as tie
 
-frozen : tie.Need-returns-then-is_frozen
-frozen c = sym (state_frozen _ _ (sym c.before.is_frozen.ensures ∙ c.if-is_frozen.true))
-
-counting : tie.Need-returns-then-time-e
-counting c =
-    let asked = c.before.before in
-    sym (state_counting _ _ (sym asked.before.is_frozen.ensures ∙ asked.if-is_frozen.false) c.if-time-e.true)
-
 free : tie.Need-returns
 free c =
     let asked = c.before.before in
     sym (state_free _ _ (sym asked.before.is_frozen.ensures ∙ asked.if-is_frozen.false) c.if-time-e.false)
 
 pub state_spec : {M : Type 1} → statement M
-state_spec = tie.close (tie.spec (λ c κs. search rules) frozen counting free)
+state_spec = tie.close (tie.spec (λ c κs. search rules) (λ c. sym (state_frozen _ _ (sym c.before.is_frozen.ensures ∙ c.if-is_frozen.true))) (λ c. let asked = c.before.before in sym (state_counting _ _ (sym asked.before.is_frozen.ensures ∙ asked.if-is_frozen.false) c.if-time-e.true)) free)

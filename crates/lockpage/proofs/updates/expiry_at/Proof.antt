@@ -6,11 +6,8 @@ use Rattle.lockpage.proofs.UpdateLaw.{expiry_none, expiry_some}
 use Rattle.lockpage.proofs.updates.expiry_at.Statement.{statement}
 use Rattle.lockpage.proofs.updates.expiry_at.Tie as tie
 
-none : tie.Need-returns-then-lock-eq0
-none c = sym (expiry_none _ _ (omega (arith, c.if-lock-eq0.true)))
-
-some : tie.Need-returns
-some c = sym (expiry_some _ _ (omega (arith, c.if-lock-eq0.false)))
-
 pub expiry_at_spec : {M : Type 1} → statement M
-expiry_at_spec = tie.close (tie.spec none (λ c. search rules) (λ c. search rules) some)
+expiry_at_spec =
+    tie.close
+    (tie.spec (λ c. sym (expiry_none _ _ (omega arith))) (λ c. search rules) (λ c. search rules)
+    (λ c. sym (expiry_some _ _ (omega arith))))

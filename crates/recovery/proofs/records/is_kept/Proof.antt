@@ -10,7 +10,7 @@ use Rattle.recovery.proofs.records.is_kept.Statement.{statement}
 use Rattle.recovery.proofs.records.is_kept.Tie as tie
 
 returns : tie.Need-returns-then-block-end
-returns c = kept_outside present _ _ _ _ c.requires.end_is _ (omega (arith, c.if-block-end.true))
+returns c = kept_outside present _ _ _ _ c.requires.end_is _ (omega arith)
 
 entry-requires : tie.Need-entry-requires
 entry-requires c κs =
@@ -19,7 +19,7 @@ entry-requires c κs =
 
 returns-2 : tie.Need-returns
 returns-2 c =
-    kept_inside present _ _ _ _ c.requires.end_is _ (omega (arith, c.if-block-end.false)) _
+    kept_inside present _ _ _ _ c.requires.end_is _ (omega arith) _
     c.entry.ensures _ c.says_kept.ensures
 
 pub is_kept_spec : {M : Type 1} → statement M

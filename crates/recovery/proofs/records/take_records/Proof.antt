@@ -24,19 +24,19 @@ take-record-requires : tie.Need-take_record-requires invariant-loop decreases-lo
 take-record-requires c κs =
     let ready = c.requires in (
       record { kept = ready.kept; content_size = ready.content_size; result_size_is = c.loop-i.invariant.size ∙ ready.result_size_is },
-      omega (arith, c.loop-i-test.true),
+      omega arith,
     )
 
 loop-again : tie.Need-loop-i-preserved invariant-loop decreases-loop
 loop-again c =
-    taken_next present _ _ _ _ _ _ _ _ c.loop-i.invariant (omega (arith, c.loop-i-test.true)) c.res-1.given
+    taken_next present _ _ _ _ _ _ _ _ c.loop-i.invariant (omega arith) c.res-1.given
     c.take_record.ensures
 
 same_length : tie.Need-shape_of-res invariant-loop decreases-loop
 same_length c = c.loop-i.invariant.size
 
 returns : tie.Need-returns invariant-loop decreases-loop
-returns c = taken_all present _ _ _ _ _ _ _ c.loop-i.invariant (omega (arith, c.loop-i-test.false))
+returns c = taken_all present _ _ _ _ _ _ _ c.loop-i.invariant (omega arith)
 
 pub take_records_spec : {M : Type 1} → statement M
 take_records_spec =

@@ -24,16 +24,16 @@ refused c =
 
 two-requires : tie.Need-two-found-requires
 two-requires c κs =
-    box_valid σ _ _ _ c.refusal-number.ensures (omega (arith, c.if-number-ne-ACCEPTED.false))
+    box_valid σ _ _ _ c.refusal-number.ensures (omega arith)
 
 few : tie.Need-returns-then-not-found
 few c =
-    too_few σ _ _ _ _ _ c.refusal-number.ensures (omega (arith, c.if-number-ne-ACCEPTED.false)) _ c.reserve.ensures _ c.two-found.ensures.1
+    too_few σ _ _ _ _ _ c.refusal-number.ensures (omega arith) _ c.reserve.ensures _ c.two-found.ensures.1
     _ _ c.if-not-found.true c.refused-then-not-found.ensures.0 c.refused-then-not-found.ensures.1
 
 found : tie.Need-returns
 found c =
-    enough σ _ _ _ _ _ c.refusal-number.ensures (omega (arith, c.if-number-ne-ACCEPTED.false)) _ c.reserve.ensures _ c.two-found.ensures.1
+    enough σ _ _ _ _ _ c.refusal-number.ensures (omega arith) _ c.reserve.ensures _ c.two-found.ensures.1
     _ _ c.if-not-found.false c.taken.ensures c.two-found.ensures.0
 
 pub allocate_spec : {M : Type 1} → statement M

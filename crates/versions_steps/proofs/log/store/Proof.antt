@@ -29,12 +29,12 @@ give-requires c κs =
 refused : tie.Need-returns-then-number-ne-ACCEPTED
 refused c =
     flush_refused σ _ _ _ _ _ _ _ _ _ _ c.requires c.reserve-reserve.ensures c.lock-lock.ensures c.fill_log.ensures
-    c.give-number.ensures (λ e. omega (arith, c.if-number-ne-ACCEPTED.true))
+    c.give-number.ensures (λ e. omega arith)
 
 stored : tie.Need-returns
 stored c =
     flush_stored σ _ _ _ _ _ _ _ _ _ _ c.requires c.reserve-reserve.ensures c.lock-lock.ensures c.fill_log.ensures
-    c.give-number.ensures (omega (arith, c.if-number-ne-ACCEPTED.false)) _ c.log.ensures
+    c.give-number.ensures (omega arith) _ c.log.ensures
 
 pub store_spec : {M : Type 1} → statement M
 store_spec =

@@ -28,23 +28,23 @@ enter-requires c κs =
     record {
       valid = c.requires.put_ready.valid;
       is_part = is_part σ _ _ _ _ _ _ c.requires;
-      more = omega (arith, c.record_count.ensures, c.if-record_count-lt-MOST_RECORDS.true);
+      more = omega (arith, c.record_count.ensures);
     }
 
 entered : tie.Need-returns-then-record_count-lt-MOST_RECORDS
 entered c =
     entered_stored σ _ _ _ _ _ _ c.requires _ c.lock-lock.ensures _ c.newest-replaced.ensures _ c.write.ensures
-    (omega (arith, c.record_count.ensures, c.if-record_count-lt-MOST_RECORDS.true)) _ c.enter.ensures
+    (omega (arith, c.record_count.ensures)) _ c.enter.ensures
 
 store-full-requires : tie.Need-store_full-requires
 store-full-requires c κs =
     log_ready σ _ _ _ _ _ _ c.requires _ c.lock-lock.ensures _ c.newest-replaced.ensures _ c.write.ensures
-    (omega (arith, c.record_count.ensures, c.if-record_count-lt-MOST_RECORDS.false))
+    (omega (arith, c.record_count.ensures))
 
 logged : tie.Need-returns
 logged c =
     logged_stored σ _ _ _ _ _ _ c.requires _ c.lock-lock.ensures _ c.newest-replaced.ensures _ c.write.ensures
-    (omega (arith, c.record_count.ensures, c.if-record_count-lt-MOST_RECORDS.false)) _ _ c.store_full.ensures.0 c.store_full.ensures.1
+    (omega (arith, c.record_count.ensures)) _ _ c.store_full.ensures.0 c.store_full.ensures.1
 
 pub store_spec : {M : Type 1} → statement M
 store_spec =
