@@ -25,4 +25,4 @@ returns-3 : tie.Need-returns
 returns-3 c = some_numbers _ _ c.count-n.ensures (whole c.before) (omega arith)
 
 pub is_list_spec : {M : Type 1} → statement M
-is_list_spec = tie.close (tie.spec (λ c κs. search rules) mul-if1 (λ c. left_over _ _ c.count-n.ensures (search rules)) (λ c. no_number _ _ c.count-n.ensures (whole c.before) c.if-n-lt1.true) returns-3)
+is_list_spec = tie.close (tie.spec (λ c κs. search rules) mul-if1 (λ c. left_over _ _ c.count-n.ensures (search rules)) (λ c. no_number _ _ c.count-n.ensures (whole c.before) (search rules)) returns-3)

@@ -43,29 +43,29 @@ query c = query_of c.args.blocks.now c.args.time c.args.answer.now
 -- what is left where questions 1, 2, 4 and 12 have yes
 left1 : (c : tie.Else-not-valid) → Left σ (box c.before) (query c.before) (law.left1 present (box c.before) (query c.before))
 left1 c =
-    still_left σ (box c.before) (query c.before) _ _ _ _ (all_left σ (box c.before) (query c.before)) c.valid.ensures (ap not c.if-not-valid.false)
+    still_left σ (box c.before) (query c.before) _ _ _ _ (all_left σ (box c.before) (query c.before)) c.valid.ensures (search rules)
 
 left2 : (c : tie.Else-not-disk_fits)
     → let asked = of-disk c.before in
     Left σ (box asked) (query asked) (law.left2 present (box asked) (query asked))
 left2 c =
-    still_left σ (box c.before.before.before) (query c.before.before.before) _ _ _ _ (left1 c.before.before) c.disk_fits.ensures (ap not c.if-not-disk_fits.false)
+    still_left σ (box c.before.before.before) (query c.before.before.before) _ _ _ _ (left1 c.before.before) c.disk_fits.ensures (search rules)
 
 left4 : (c : tie.Else-not-is_timely)
     → let asked = of-time c.before in
     Left σ (box asked) (query asked) (law.left4 present (box asked) (query asked))
 left4 c =
-    still_left σ (box c.before.before.before.before.before) (query c.before.before.before.before.before) _ _ _ _ (left2 c.before.before) c.is_timely.ensures (ap not c.if-not-is_timely.false)
+    still_left σ (box c.before.before.before.before.before) (query c.before.before.before.before.before) _ _ _ _ (left2 c.before.before) c.is_timely.ensures (search rules)
 
 left12 : (c : tie.Else-not-is_list)
     → let asked = of-list c.before in
     Left σ (box asked) (query asked) (from_fifth present (box asked) (query asked))
 left12 c =
-    still_left σ (box c.before.before.before.before.before.before.before) (query c.before.before.before.before.before.before.before) _ _ _ _ (left4 c.before.before) c.is_list.ensures (ap not c.if-not-is_list.false)
+    still_left σ (box c.before.before.before.before.before.before.before) (query c.before.before.before.before.before.before.before) _ _ _ _ (left4 c.before.before) c.is_list.ensures (search rules)
 
 -- the memory, once question 1 has yes
 valid-memory : (c : tie.Else-not-valid) → Valid present (start c.before).args.memory.now
-valid-memory c = facts σ _ (sym c.valid.ensures ∙ c.if-not-valid.false)
+valid-memory c = facts σ _ (sym c.valid.ensures ∙ (search rules))
 
 -- question 5's answer
 ranged : (c : tie.After-all_below)
@@ -78,7 +78,7 @@ left5 : (c : tie.Else-not-all_below)
     → let asked = of_range c.before in
     Left σ (box asked) (query asked) (from_sixth (query asked))
 left5 c =
-    still_left σ (box c.before.before.before.before.before.before.before.before.before.before.before) (query c.before.before.before.before.before.before.before.before.before.before.before) _ _ _ _ (left12 c.before.before.before.before) (ranged c.before) (ap not c.if-not-all_below.false)
+    still_left σ (box c.before.before.before.before.before.before.before.before.before.before.before) (query c.before.before.before.before.before.before.before.before.before.before.before) _ _ _ _ (left12 c.before.before.before.before) (ranged c.before) (search rules)
 
 cast-limit : tie.Need-overflow_cast-limit
 cast-limit c =
@@ -88,32 +88,32 @@ cast-limit c =
 
 mul-if6 : tie.Need-overflow_mul-count
 mul-if6 c =
-    let yes = sym c.is_list.ensures ∙ c.if-not-is_list.false in
+    let yes = sym c.is_list.ensures ∙ (search rules) in
     let few = (list_yes c.args.blocks.now yes).few in
     search rules
 
 none : tie.Need-returns
 none c =
-    accepted σ (box c.before.before.before.before.before.before.before.before.before.before.before.before.before) (query c.before.before.before.before.before.before.before.before.before.before.before.before.before) _ c.count.ensures (left5 c.before.before) c.if-answer-count.false
+    accepted σ (box c.before.before.before.before.before.before.before.before.before.before.before.before.before) (query c.before.before.before.before.before.before.before.before.before.before.before.before.before) _ c.count.ensures (left5 c.before.before) (search rules)
 
 pub refusal_spec : {M : Type 1} → statement M
 refusal_spec =
     tie.close
     (tie.spec
     (λ c κs. search rules)
-    (λ c. refused σ (box c.before) (query c.before) _ _ _ _ (all_left σ (box c.before) (query c.before)) c.valid.ensures (ap not c.if-not-valid.true))
+    (λ c. refused σ (box c.before) (query c.before) _ _ _ _ (all_left σ (box c.before) (query c.before)) c.valid.ensures (search rules))
     (λ c κs. (valid-memory c).size)
-    (λ c. refused σ (box c.before.before.before) (query c.before.before.before) _ _ _ _ (left1 c.before.before) c.disk_fits.ensures (ap not c.if-not-disk_fits.true))
+    (λ c. refused σ (box c.before.before.before) (query c.before.before.before) _ _ _ _ (left1 c.before.before) c.disk_fits.ensures (search rules))
     (λ c κs. (valid-memory c.before.before).size)
-    (λ c. refused σ (box c.before.before.before.before.before) (query c.before.before.before.before.before) _ _ _ _ (left2 c.before.before) c.is_timely.ensures (ap not c.if-not-is_timely.true))
+    (λ c. refused σ (box c.before.before.before.before.before) (query c.before.before.before.before.before) _ _ _ _ (left2 c.before.before) c.is_timely.ensures (search rules))
     (λ c κs. search rules)
-    (λ c. refused σ (box c.before.before.before.before.before.before.before) (query c.before.before.before.before.before.before.before) _ _ _ _ (left4 c.before.before) c.is_list.ensures (ap not c.if-not-is_list.true))
+    (λ c. refused σ (box c.before.before.before.before.before.before.before) (query c.before.before.before.before.before.before.before) _ _ _ _ (left4 c.before.before) c.is_list.ensures (search rules))
     (λ c κs. (valid-memory c.before.before.before.before.before.before).size)
     (λ c κs. search rules)
     cast-limit
     (λ c κs. search rules)
-    (λ c. refused σ (box c.before.before.before.before.before.before.before.before.before.before.before) (query c.before.before.before.before.before.before.before.before.before.before.before) _ _ _ _ (left12 c.before.before.before.before) (ranged c.before) (ap not c.if-not-all_below.true))
+    (λ c. refused σ (box c.before.before.before.before.before.before.before.before.before.before.before) (query c.before.before.before.before.before.before.before.before.before.before.before) _ _ _ _ (left12 c.before.before.before.before) (ranged c.before) (search rules))
     (λ c κs. search rules)
     mul-if6
-    (λ c. length_wrong σ (box c.before.before.before.before.before.before.before.before.before.before.before.before.before) (query c.before.before.before.before.before.before.before.before.before.before.before.before.before) _ c.count.ensures (left5 c.before.before) c.if-answer-count.true)
+    (λ c. length_wrong σ (box c.before.before.before.before.before.before.before.before.before.before.before.before.before) (query c.before.before.before.before.before.before.before.before.before.before.before.before.before) _ c.count.ensures (left5 c.before.before) (search rules))
     none)

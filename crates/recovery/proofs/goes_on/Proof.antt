@@ -22,9 +22,9 @@ is-marked-requires c κs = omega (arith, marks_cover _ _ _ c.requires)
 returns-3 : tie.Need-returns
 returns-3 c walked are =
     let ready = c.requires in
-    goes present _ _ _ _ _ ready.inside _ c.entry-e.ensures _ c.says_kept.ensures (ap not c.if-not-says_kept.false)
+    goes present _ _ _ _ _ ready.inside _ c.entry-e.ensures _ c.says_kept.ensures (search rules)
     (omega arith) _ (marks_cover _ _ _ ready) _ c.is_marked.ensures walked are
 
 pub goes_on_spec : {M : Type 1} → statement M
 goes_on_spec =
-    tie.close (tie.spec entry-requires (λ c κs. search rules) (λ c walked are. stops_unkept present _ _ _ _ _ c.requires.inside _ c.entry-e.ensures _ c.says_kept.ensures (ap not c.if-not-says_kept.true) walked) (λ c walked are. stops_earlier present _ _ _ _ _ c.requires.inside _ c.entry-e.ensures _ c.says_kept.ensures (ap not c.if-not-says_kept.false) c.if-e-parent.true walked) is-marked-requires returns-3)
+    tie.close (tie.spec entry-requires (λ c κs. search rules) (λ c walked are. stops_unkept present _ _ _ _ _ c.requires.inside _ c.entry-e.ensures _ c.says_kept.ensures (search rules) walked) (λ c walked are. stops_earlier present _ _ _ _ _ c.requires.inside _ c.entry-e.ensures _ c.says_kept.ensures (search rules) (search rules) walked) is-marked-requires returns-3)

@@ -104,7 +104,7 @@ take-records-requires c κs =
 
 loop-again : tie.Need-loop-left-preserved invariant-loop decreases-loop
 loop-again c =
-    walk_step present _ _ _ _ _ _ _ _ c.loop-left.invariant c.loop-left-test.true _ c.goes_on.ensures (ap not c.if-not-goes_on.false)
+    walk_step present _ _ _ _ _ _ _ _ c.loop-left.invariant c.loop-left-test.true _ c.goes_on.ensures (search rules)
     (marks_cover _ _ _ (ready c.before.before.before.before.before.before.before.before.before.before.before.before.before.before)) _ _ _ _ _ c.mark.ensures c.lend_block-content.ensures c.take_records.ensures
     c.entry-parent.ensures c.load_u64-next.ensures
 
@@ -114,7 +114,7 @@ returns-3 c = walk_end present _ _ _ _ _ _ _ _ c.loop-left.invariant (omega arit
 pub walk_spec : {M : Type 1} → statement M
 walk_spec =
     tie.close
-    (tie.spec invariant-loop decreases-loop end-of-requires (λ c. search rules) loop-holds (λ c. search rules) (λ c. still-long c.before.before) (λ c. walk_outside present _ _ _ _ _ _ _ _ c.loop-left.invariant c.loop-left-test.true _ c.end_of-end.ensures c.if-next-end.true)
-    (λ c. search rules) slice-aggregate-goes-on (λ c κs. ready c.before) (λ c. still-long c.before.before.before.before.before) (λ c. walk_stop present _ _ _ _ _ _ _ _ c.loop-left.invariant c.loop-left-test.true _ c.goes_on.ensures (ap not c.if-not-goes_on.true))
+    (tie.spec invariant-loop decreases-loop end-of-requires (λ c. search rules) loop-holds (λ c. search rules) (λ c. still-long c.before.before) (λ c. walk_outside present _ _ _ _ _ _ _ _ c.loop-left.invariant c.loop-left-test.true _ c.end_of-end.ensures (search rules))
+    (λ c. search rules) slice-aggregate-goes-on (λ c κs. ready c.before) (λ c. still-long c.before.before.before.before.before) (λ c. walk_stop present _ _ _ _ _ _ _ _ c.loop-left.invariant c.loop-left-test.true _ c.goes_on.ensures (search rules))
     slice-aggregate-mark mark-requires entry-requires lend-block-requires load-u64-requires take-records-requires (λ c. search rules)
     (λ c. search rules) loop-again (λ c. still-long c.before) returns-3)

@@ -6,10 +6,10 @@ use Rattle.sockjade.proofs.sockjade_digest.Tie as tie
 
 accepted : tie.Need-returns
 accepted c =
-    digested _ _ _ c.if-input-gt-LONGEST_INPUT.false c.if-out-ne-DIGEST_SIZE.false c.digest.ensures
+    digested _ _ _ (search rules) (search rules) c.digest.ensures
 
 pub sockjade_digest_spec : {M : Type 1} → statement M
 sockjade_digest_spec =
     tie.close
-    (tie.spec (λ c. refused_input _ _ c.if-input-gt-LONGEST_INPUT.true) (λ c. refused_out _ _ c.if-input-gt-LONGEST_INPUT.false c.if-out-ne-DIGEST_SIZE.true)
+    (tie.spec (λ c. refused_input _ _ (search rules)) (λ c. refused_out _ _ (search rules) (search rules))
     (λ c κs. search rules) (λ c. search rules) accepted)

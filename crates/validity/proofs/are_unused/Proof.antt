@@ -16,7 +16,7 @@ piece : tie.Need-returns-then-not-filled
 piece c =
     let compared = c.before in
     let few = compared.before in
-    piece_used _ _ _ _ _ _ few.before.count_start-from.ensures compared.filled.ensures (omega arith) (ap not c.if-not-filled.true)
+    piece_used _ _ _ _ _ _ few.before.count_start-from.ensures compared.filled.ensures (omega arith) (search rules)
 
 -- where the last comparison starts: not behind the counts
 from-most : (c : tie.Joined-first-le-FEW_GROUPS) → c.if-first-le-FEW_GROUPS.from ≤ time_start present
@@ -42,7 +42,7 @@ last c =
     let joined = c.before.before in
     let placed = joined.before in
     elim joined.if-first-le-FEW_GROUPS.branch [
-      | then-first-le-FEW_GROUPS+else-not-filled+else-first-eq-FEW_GROUPS few ↦ last_decides _ _ _ _ _ _ placed.count_start-from.ensures few.filled.ensures (ap not few.if-not-filled.false) _ _ (omega (arith, few.from-is))
+      | then-first-le-FEW_GROUPS+else-not-filled+else-first-eq-FEW_GROUPS few ↦ last_decides _ _ _ _ _ _ placed.count_start-from.ensures few.filled.ensures (search rules) _ _ (omega (arith, few.from-is))
           (omega (arith, few.from-is)) (omega (arith, few.from-is)) _ c.filled-2.ensures
       | else-first-le-FEW_GROUPS many ↦ piece_all _ _ _ _ _ _ (many.from-is ∙ placed.count_start-from.ensures) c.filled-2.ensures
           (omega (arith, many.from-is, placed.count_start-from.ensures))
@@ -51,4 +51,4 @@ last c =
 pub are_unused_spec : {M : Type 1} → statement M
 are_unused_spec =
     tie.close
-    (tie.spec (λ c κs. search rules) (λ c κs. search rules) piece (λ c. let zero = c.before in let compared = zero.before in sym (zero.if-not-filled.false) ∙ piece_all _ _ _ _ _ _ compared.before.before.count_start-from.ensures compared.filled.ensures (omega arith)) (λ c. search rules) sub-filled filled-requires-2 last)
+    (tie.spec (λ c κs. search rules) (λ c κs. search rules) piece (λ c. let zero = c.before in let compared = zero.before in sym (search rules) ∙ piece_all _ _ _ _ _ _ compared.before.before.count_start-from.ensures compared.filled.ensures (omega arith)) (λ c. search rules) sub-filled filled-requires-2 last)

@@ -27,7 +27,7 @@ abbrev bytes : tie.After-are_unused → List ℕ
 bytes c = (start (grouped c)).args.memory.now
 
 unused : tie.Need-returns-then-not-are_unused
-unused c = counts_used σ _ _ _ (grouped c.before).groups-groups.ensures c.before.are_unused.ensures (ap not c.if-not-are_unused.true)
+unused c = counts_used σ _ _ _ (grouped c.before).groups-groups.ensures c.before.are_unused.ensures (search rules)
 
 -- the clauses on all but the held group, once they are passed
 passed : (c : tie.Else-not-filled) → Passed present (bytes (compared c))
@@ -42,8 +42,8 @@ passed c =
       least = omega (arith, groups);
       most = omega (arith, groups);
       time = omega (arith, four.before.last_time.ensures);
-      unused = counts_unused σ _ _ _ groups (compared c).are_unused.ensures (ap not five.if-not-are_unused.false);
-      reserved = reserved_zero σ _ _ c.before.filled.ensures (ap not c.if-not-filled.false);
+      unused = counts_unused σ _ _ _ groups (compared c).are_unused.ensures (search rules);
+      reserved = reserved_zero σ _ _ c.before.filled.ensures (search rules);
     }
 
 held : tie.Need-returns
@@ -56,5 +56,5 @@ valid_spec =
     (λ c. invalid σ _ (λ v. omega (arith, c.before.groups-groups.ensures, v.least)))
     (λ c. invalid σ _ (λ v. omega (arith, c.before.before.groups-groups.ensures, v.most))) (λ c κs. search rules)
     (λ c. invalid σ _ (λ v. omega (arith, c.before.last_time.ensures, v.time))) (λ c κs. search rules) unused
-    (λ c κs. search rules) (λ c. reserved_used σ _ _ c.before.filled.ensures (ap not c.if-not-filled.true))
+    (λ c κs. search rules) (λ c. reserved_used σ _ _ c.before.filled.ensures (search rules))
     (λ c κs. search rules) held)

@@ -23,7 +23,7 @@ few c =
     let three = ranged counted in
     let some = tested three in
     let read = some.before in
-    updates_decide σ _ _ _ read.before.held-group.ensures read.update_count-updates.ensures some.if-group.false _ counted.count-count.ensures _
+    updates_decide σ _ _ _ read.before.held-group.ensures read.update_count-updates.ensures (search rules) _ counted.count-count.ensures _
     three.before.groups-groups.ensures (omega arith) (omega arith) (omega arith)
     (omega arith)
 
@@ -35,5 +35,5 @@ count-requires c κs =
 pub valid_held_spec : {M : Type 1} → statement M
 valid_held_spec =
     tie.close
-    (tie.spec (λ c κs. search rules) (λ c κs. search rules) (λ c. search rules) (λ c. let read = c.before.before in none_updated σ _ _ _ read.before.held-group.ensures read.update_count-updates.ensures c.before.if-group.true c.if-updates-ne0.true) (λ c κs. search rules) (λ c. let left = c.before in let read = left.before.before in page_decides σ _ _ _ read.before.held-group.ensures read.update_count-updates.ensures left.before.if-group.true _ left.if-updates-ne0.false c.is_zero.ensures)
-    (λ c κs. search rules) (λ c. let some = c.before.before in let read = some.before in held_out σ _ _ _ read.before.held-group.ensures read.update_count-updates.ensures some.if-group.false _ c.before.groups-groups.ensures (omega arith)) count-requires (λ c. let counted = c.before in let some = tested (ranged counted) in let read = some.before in held_uncounted σ _ _ _ read.before.held-group.ensures read.update_count-updates.ensures some.if-group.false _ counted.count-count.ensures (omega arith)) (λ c. let counted = c.before.before in let some = tested (ranged counted) in let read = some.before in held_exhausted σ _ _ _ read.before.held-group.ensures read.update_count-updates.ensures some.if-group.false _ counted.count-count.ensures (omega arith)) (λ c. let some = tested (ranged c.before.before.before) in let read = some.before in held_not_updated σ _ _ _ read.before.held-group.ensures read.update_count-updates.ensures some.if-group.false (omega arith)) few)
+    (tie.spec (λ c κs. search rules) (λ c κs. search rules) (λ c. search rules) (λ c. let read = c.before.before in none_updated σ _ _ _ read.before.held-group.ensures read.update_count-updates.ensures (search rules) (search rules)) (λ c κs. search rules) (λ c. let left = c.before in let read = left.before.before in page_decides σ _ _ _ read.before.held-group.ensures read.update_count-updates.ensures (search rules) _ (search rules) c.is_zero.ensures)
+    (λ c κs. search rules) (λ c. let some = c.before.before in let read = some.before in held_out σ _ _ _ read.before.held-group.ensures read.update_count-updates.ensures (search rules) _ c.before.groups-groups.ensures (omega arith)) count-requires (λ c. let counted = c.before in let some = tested (ranged counted) in let read = some.before in held_uncounted σ _ _ _ read.before.held-group.ensures read.update_count-updates.ensures (search rules) _ counted.count-count.ensures (omega arith)) (λ c. let counted = c.before.before in let some = tested (ranged counted) in let read = some.before in held_exhausted σ _ _ _ read.before.held-group.ensures read.update_count-updates.ensures (search rules) _ counted.count-count.ensures (omega arith)) (λ c. let some = tested (ranged c.before.before.before) in let read = some.before in held_not_updated σ _ _ _ read.before.held-group.ensures read.update_count-updates.ensures (search rules) (omega arith)) few)

@@ -12,30 +12,30 @@ use Rattle.versions.proofs.flush.Statement.{statement}
 use Rattle.versions.proofs.flush.Tie as tie
 
 record-count-requires : tie.Need-record_count-requires
-record-count-requires c κs = (facts present _ (sym c.valid.ensures ∙ c.if-not-valid.false)).size
+record-count-requires c κs = (facts present _ (sym c.valid.ensures ∙ (search rules))).size
 
 nothing : tie.Need-returns-then-record_count-eq0
 unfolding Below
 nothing c =
-    law.flush_nothing σ _ _ _ _ _ c.valid.ensures (ap not c.if-not-valid.false) (λ i. omega (arith, c.slice_known-1.given i))
+    law.flush_nothing σ _ _ _ _ _ c.valid.ensures (search rules) (λ i. omega (arith, c.slice_known-1.given i))
     (omega (arith, c.record_count.ensures))
 
 allocate-requires : tie.Need-allocate-next-requires
 allocate-requires c κs =
-    sym c.valid.ensures ∙ c.if-not-valid.false
+    sym c.valid.ensures ∙ (search rules)
 
 store-requires : tie.Need-store-requires
 store-requires c κs =
     record {
-      valid = sym c.valid.ensures ∙ c.if-not-valid.false;
-      records = λ z. c.if-record_count-eq0.false (c.record_count.ensures ∙ z);
+      valid = sym c.valid.ensures ∙ (search rules);
+      records = λ z. (search rules) (c.record_count.ensures ∙ z);
       asked = sym c.allocate-next.ensures.number_is ∙ omega arith;
       pointer_is = c.allocate-next.ensures.block_is (omega arith);
     }
 
 stored : tie.Need-returns
 stored c =
-    c.store.ensures ∙ sym (law.flush_handed σ _ _ _ _ _ c.valid.ensures (ap not c.if-not-valid.false))
+    c.store.ensures ∙ sym (law.flush_handed σ _ _ _ _ _ c.valid.ensures (search rules))
 
 pub flush_spec : {M : Type 1} → statement M
 flush_spec =
@@ -43,7 +43,7 @@ flush_spec =
     (tie.spec
     (λ c κs. search rules)
     (λ c. search rules)
-    (λ c. law.flush_no_state σ _ _ _ _ _ c.valid.ensures (ap not c.if-not-valid.true))
+    (λ c. law.flush_no_state σ _ _ _ _ _ c.valid.ensures (search rules))
     record-count-requires
     (λ c. search rules)
     nothing
@@ -51,7 +51,7 @@ flush_spec =
     (λ c. search rules)
     (λ c. search rules)
     (λ c. search rules)
-    (λ c. law.flush_no_box σ _ _ _ _ _ c.valid.ensures (ap not c.if-not-valid.false) (λ z. c.if-record_count-eq0.false (c.record_count.ensures ∙ z)) _ _ c.allocate-next.ensures c.if-next-ne-ACCEPTED.true)
+    (λ c. law.flush_no_box σ _ _ _ _ _ c.valid.ensures (search rules) (λ z. (search rules) (c.record_count.ensures ∙ z)) _ _ c.allocate-next.ensures (search rules))
     store-requires
     (λ c. search rules)
     (λ c. search rules)

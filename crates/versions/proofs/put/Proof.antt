@@ -11,25 +11,25 @@ use Rattle.versions.proofs.put.Tie as tie
 
 allocate-requires : tie.Need-allocate-next-requires
 allocate-requires c κs =
-    sym c.valid.ensures ∙ c.if-not-valid.false
+    sym c.valid.ensures ∙ (search rules)
 
 forecast-requires : tie.Need-forecast-number-requires
 forecast-requires c κs =
-    law.put_is_ready σ _ _ _ _ _ [] (omega arith) _ c.valid.ensures (ap not c.if-not-valid.false) _ _ c.allocate-next.ensures
+    law.put_is_ready σ _ _ _ _ _ [] (omega arith) _ c.valid.ensures (search rules) _ _ c.allocate-next.ensures
     (omega arith)
 
 store-requires : tie.Need-store-requires
 store-requires c κs =
     record {
       put_ready =
-          law.put_is_ready σ _ _ _ _ _ [] (omega arith) _ c.valid.ensures (ap not c.if-not-valid.false) _ _ c.allocate-next.ensures
+          law.put_is_ready σ _ _ _ _ _ [] (omega arith) _ c.valid.ensures (search rules) _ _ c.allocate-next.ensures
           (omega arith);
       accepted = omega (arith, c.forecast-number.ensures);
     }
 
 stored : tie.Need-returns
 stored c =
-    law.put_stored σ _ _ _ _ _ _ (omega arith) _ c.valid.ensures (ap not c.if-not-valid.false) _ c.forecast-number.ensures
+    law.put_stored σ _ _ _ _ _ _ (omega arith) _ c.valid.ensures (search rules) _ c.forecast-number.ensures
     (omega arith) _ (c.allocate-next.ensures.block_is (omega arith)) _ _ c.store.ensures
 
 pub put_spec : {M : Type 1} → statement M
@@ -41,19 +41,19 @@ put_spec =
     (λ c κs. search rules)
     (λ c κs. search rules)
     (λ c. search rules)
-    (λ c. law.no_state σ _ _ _ _ _ _ (omega arith) _ c.valid.ensures _ _ (ap not c.if-not-valid.true) c.refused-then-not-valid.ensures.0 c.refused-then-not-valid.ensures.1)
+    (λ c. law.no_state σ _ _ _ _ _ _ (omega arith) _ c.valid.ensures _ _ (search rules) c.refused-then-not-valid.ensures.0 c.refused-then-not-valid.ensures.1)
     allocate-requires
     (λ c κs. search rules)
     (λ c. search rules)
     (λ c. search rules)
     (λ c. search rules)
-    (λ c. law.no_box σ _ _ _ _ _ _ (omega arith) _ c.valid.ensures (ap not c.if-not-valid.false) _ _ c.allocate-next.ensures c.if-next-ne-ACCEPTED.true _ _ c.refused-then-next-ne-ACCEPTED.ensures.0 c.refused-then-next-ne-ACCEPTED.ensures.1)
+    (λ c. law.no_box σ _ _ _ _ _ _ (omega arith) _ c.valid.ensures (search rules) _ _ c.allocate-next.ensures (search rules) _ _ c.refused-then-next-ne-ACCEPTED.ensures.0 c.refused-then-next-ne-ACCEPTED.ensures.1)
     forecast-requires
     (λ c κs. search rules)
     (λ c. search rules)
     (λ c. search rules)
     (λ c. search rules)
-    (λ c. law.no_command σ _ _ _ _ _ _ (omega arith) _ c.valid.ensures (ap not c.if-not-valid.false) _ c.forecast-number.ensures (λ z. omega arith) _ _ c.refused-then-number-ne-ACCEPTED.ensures.0 c.refused-then-number-ne-ACCEPTED.ensures.1)
+    (λ c. law.no_command σ _ _ _ _ _ _ (omega arith) _ c.valid.ensures (search rules) _ c.forecast-number.ensures (λ z. omega arith) _ _ c.refused-then-number-ne-ACCEPTED.ensures.0 c.refused-then-number-ne-ACCEPTED.ensures.1)
     store-requires
     (λ c. search rules)
     (λ c. search rules)

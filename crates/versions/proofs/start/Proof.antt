@@ -14,7 +14,7 @@ start-requires c κs = omega arith
 stored : tie.Need-returns
 stored c =
     ap (started_of 0) c.start.ensures
-    ∙ started σ _ _ _ (omega arith) (sym c.is_lock.ensures ∙ c.if-not-is_lock.false)
+    ∙ started σ _ _ _ (omega arith) (sym c.is_lock.ensures ∙ (search rules))
 
 pub start_spec : {M : Type 1} → statement M
-start_spec = tie.close (tie.spec (λ c. wrong_size σ _ _ _ c.if-buffer-ne-STATE_SIZE.true) (λ c κs. search rules) (λ c. no_lock σ _ _ _ (omega arith) (sym c.is_lock.ensures ∙ c.if-not-is_lock.true)) start-requires (λ c. search rules) stored)
+start_spec = tie.close (tie.spec (λ c. wrong_size σ _ _ _ (search rules)) (λ c κs. search rules) (λ c. no_lock σ _ _ _ (omega arith) (sym c.is_lock.ensures ∙ (search rules))) start-requires (λ c. search rules) stored)

@@ -10,4 +10,4 @@ use Rattle.versions_search.proofs.next.Tie as tie
 pub next_spec : {M : Type 1} → statement M
 next_spec =
     tie.close
-    (tie.spec (λ c κs. search rules) (λ c κs. search rules) (λ c κs. search rules) (λ c. next_first present _ _ _ _ _ _ c.end_of-end.ensures c.behind-start.ensures _ (hit _ _ _ _ c.behind-start.ensures.within c.next_in-first.ensures c.if-first-end.true)) (λ c κs. search rules) (λ c. next_second present _ _ _ _ _ _ c.end_of-end.ensures c.behind-start.ensures _ (miss _ _ _ _ c.behind-start.ensures.within c.next_in-first.ensures (omega arith)) (hit _ _ _ _ (omega arith) c.next_in-second.ensures c.if-second-start.true)) (λ c. next_none present _ _ _ _ _ _ c.end_of-end.ensures c.behind-start.ensures (miss _ _ _ _ c.behind-start.ensures.within c.next_in-first.ensures (omega arith)) (miss _ _ _ _ (omega arith) c.next_in-second.ensures (omega arith))))
+    (tie.spec (λ c κs. search rules) (λ c κs. search rules) (λ c κs. search rules) (λ c. next_first present _ _ _ _ _ _ c.end_of-end.ensures c.behind-start.ensures _ (hit _ _ _ _ c.behind-start.ensures.within c.next_in-first.ensures (search rules))) (λ c κs. search rules) (λ c. next_second present _ _ _ _ _ _ c.end_of-end.ensures c.behind-start.ensures _ (miss _ _ _ _ c.behind-start.ensures.within c.next_in-first.ensures (omega arith)) (hit _ _ _ _ (omega arith) c.next_in-second.ensures (search rules))) (λ c. next_none present _ _ _ _ _ _ c.end_of-end.ensures c.behind-start.ensures (miss _ _ _ _ c.behind-start.ensures.within c.next_in-first.ensures (omega arith)) (miss _ _ _ _ (omega arith) c.next_in-second.ensures (omega arith))))

@@ -11,7 +11,7 @@ use Rattle.write_back.proofs.lose_held.Statement.{statement}
 use Rattle.write_back.proofs.lose_held.Tie as tie
 
 none : tie.Need-returns-then-lost
-none c = none_lost σ _ _ c.held-lost.ensures c.if-lost.true
+none c = none_lost σ _ _ c.held-lost.ensures (search rules)
 
 -- the states on the way back: none held, the count read, a group held, the start
 abbrev counted : tie.After-hold_none → tie.After-count-count
@@ -24,11 +24,11 @@ abbrev start : tie.Else-lost → tie.Start
 start c = c.before.before.before
 
 few : (c : tie.Else-lost) → c.before.held-lost.result < present.most_groups
-few c = held_few σ _ _ c.held-lost.ensures (facts σ _ c.requires) c.if-lost.false
+few c = held_few σ _ _ c.held-lost.ensures (facts σ _ c.requires) (search rules)
 
 within : (c : tie.After-count-count) → c.count-count.result ≤ count_limit
 within c =
-    held_count σ _ _ c.held-lost.ensures (facts σ _ c.requires) c.if-lost.false _ c.count-count.ensures
+    held_count σ _ _ c.held-lost.ensures (facts σ _ c.requires) (search rules) _ c.count-count.ensures
 
 set-requires : tie.Need-set_count-requires
 set-requires c κs =
@@ -37,7 +37,7 @@ set-requires c κs =
 
 some : tie.Need-returns
 some c =
-    held_lost σ _ _ c.held-lost.ensures (facts σ _ c.requires) c.if-lost.false _ c.count-count.ensures _ _
+    held_lost σ _ _ c.held-lost.ensures (facts σ _ c.requires) (search rules) _ c.count-count.ensures _ _
     c.hold_none.ensures c.set_count.ensures
 
 pub lose_held_spec : {M : Type 1} → statement M

@@ -25,17 +25,17 @@ copy-page-requires c κs =
 store-page-requires : tie.Need-store_page-requires
 store-page-requires c κs =
     let disk = c.args.disk.now in (
-      held_has σ _ _ c.held-held.ensures (valid c.before.before.before.before.before) c.if-held.false disk _ c.requires.disk c.copy_page.ensures,
-      held_size σ _ _ c.held-held.ensures (valid c.before.before.before.before.before) c.if-held.false disk _ c.requires.disk c.copy_page.ensures,
+      held_has σ _ _ c.held-held.ensures (valid c.before.before.before.before.before) (search rules) disk _ c.requires.disk c.copy_page.ensures,
+      held_size σ _ _ c.held-held.ensures (valid c.before.before.before.before.before) (search rules) disk _ c.requires.disk c.copy_page.ensures,
     )
 
 some : tie.Need-returns
 some c =
-    held_put σ _ _ c.held-held.ensures (valid c.before.before.before.before.before.before.before.before) c.if-held.false _ _ c.requires.disk c.copy_page.ensures _
+    held_put σ _ _ c.held-held.ensures (valid c.before.before.before.before.before.before.before.before) (search rules) _ _ c.requires.disk c.copy_page.ensures _
     c.store_page.ensures
 
 pub put_held_spec : {M : Type 1} → statement M
 put_held_spec =
     tie.close
-    (tie.spec (λ c κs. (facts σ _ c.requires.memory).size) (λ c. search rules) (λ c. none_put σ _ _ c.held-held.ensures _ c.if-held.true) (λ c. search rules) copy-page-requires
+    (tie.spec (λ c κs. (facts σ _ c.requires.memory).size) (λ c. search rules) (λ c. none_put σ _ _ c.held-held.ensures _ (search rules)) (λ c. search rules) copy-page-requires
     (λ c. search rules) store-page-requires (λ c. search rules) some)

@@ -135,9 +135,9 @@ loop-again c =
       omega (arith, inside c.before.before.before.before.before),
       elim c.if-first-group-eq-MOST_NUMBERS.branch [
         | then-first-group-eq-MOST_NUMBERS new ↦ turn_new _ _ _ _ _ _ _ _ _ _ inv.1 (omega arith) inv.0 few (group-is c.before.before.before) (group_known c.before.before.before) _ _
-            new.if-first-group-eq-MOST_NUMBERS.true new.named-is new.groups-is
+            (search rules) new.named-is new.groups-is
         | else-first-group-eq-MOST_NUMBERS seen ↦ turn_seen _ _ _ _ _ _ _ _ _ _ inv.1 (omega arith) inv.0 few (group-is c.before.before.before) (group_known c.before.before.before) _ _
-            seen.if-first-group-eq-MOST_NUMBERS.false seen.named-is seen.groups-is
+            (search rules) seen.named-is seen.groups-is
       ],
     )
 

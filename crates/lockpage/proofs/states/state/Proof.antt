@@ -8,7 +8,7 @@ use Rattle.lockpage.proofs.states.state.Tie as tie
 free : tie.Need-returns
 free c =
     let asked = c.before.before in
-    sym (state_free _ _ (sym asked.before.is_frozen.ensures ∙ asked.if-is_frozen.false) c.if-time-e.false)
+    sym (state_free _ _ (sym asked.before.is_frozen.ensures ∙ (search rules)) (search rules))
 
 pub state_spec : {M : Type 1} → statement M
-state_spec = tie.close (tie.spec (λ c κs. search rules) (λ c. sym (state_frozen _ _ (sym c.before.is_frozen.ensures ∙ c.if-is_frozen.true))) (λ c. let asked = c.before.before in sym (state_counting _ _ (sym asked.before.is_frozen.ensures ∙ asked.if-is_frozen.false) c.if-time-e.true)) free)
+state_spec = tie.close (tie.spec (λ c κs. search rules) (λ c. sym (state_frozen _ _ (sym c.before.is_frozen.ensures ∙ (search rules)))) (λ c. let asked = c.before.before in sym (state_counting _ _ (sym asked.before.is_frozen.ensures ∙ (search rules)) (search rules))) free)

@@ -35,13 +35,13 @@ answers c =
     }
 
 tag : tie.Need-returns-then-not-matches
-tag c = no_7 σ _ _ _ _ _ _ _ _ _ (answers c.before) (ap not c.if-not-matches.true)
+tag c = no_7 σ _ _ _ _ _ _ _ _ _ (answers c.before) (search rules)
 
 none : tie.Need-returns
 none c =
     let third = c.before in
-    none_no σ _ _ _ _ _ _ _ _ _ (answers (first third).before) (ap not c.if-not-matches.false) (ap not c.if-not-unexhausted.false) (ap not c.if-not-allowed.false) (ap not c.if-not-within.false)
+    none_no σ _ _ _ _ _ _ _ _ _ (answers (first third).before) (search rules) (search rules) (search rules) (search rules)
 
 pub refusal_spec : {M : Type 1} → statement M
 refusal_spec = tie.close (tie.spec (λ c κs. search rules) (λ c κs. search rules) (λ c κs. search rules) (λ c κs. search rules) (λ c κs. search rules)
-    (λ c κs. search rules) (λ c κs. search rules) tag (λ c. no_8 σ _ _ _ _ _ _ _ _ _ (answers c.before.before) (ap not c.if-not-matches.false) (ap not c.if-not-unexhausted.true)) (λ c. no_9 σ _ _ _ _ _ _ _ _ _ (answers c.before.before.before) (ap not c.if-not-matches.false) (ap not c.if-not-unexhausted.false) (ap not c.if-not-allowed.true)) (λ c. let third = c.before in no_10 σ _ _ _ _ _ _ _ _ _ (answers (first third).before) (ap not c.if-not-matches.false) (ap not c.if-not-unexhausted.false) (ap not c.if-not-allowed.false) (ap not c.if-not-within.true)) none)
+    (λ c κs. search rules) (λ c κs. search rules) tag (λ c. no_8 σ _ _ _ _ _ _ _ _ _ (answers c.before.before) (search rules) (search rules)) (λ c. no_9 σ _ _ _ _ _ _ _ _ _ (answers c.before.before.before) (search rules) (search rules) (search rules)) (λ c. let third = c.before in no_10 σ _ _ _ _ _ _ _ _ _ (answers (first third).before) (search rules) (search rules) (search rules) (search rules)) none)
