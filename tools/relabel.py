@@ -12,6 +12,8 @@ import os
 import re
 import sys
 
+import flatten
+
 FIELD = re.compile(r"(?<=[\w)′'₀-₉])\.([^\s(){}.;,]+)")
 TIE = re.compile(r"\btie\.([^\s(){}.;,]+)")
 plain = lambda it: it.replace("_", "-")
@@ -70,6 +72,92 @@ def by_position(body, needs, loops):
     return body
 
 
+def steps_back(body, of):
+    """Counts anew how many steps a function from one place to an earlier one goes back."""
+
+    def one(found):
+        steps = steps_between(of, found["from"], found["to"])
+        return found[0] if steps is None else found["head"] + found["var"] + ".before" * steps
+
+    return re.sub(
+        r"(?m)^(?P<head>(?:abbrev )?(?:pub )?(?P<name>[\w'-]+) : tie\.(?P<from>[^\s→]+)[^→\n]*→ tie\.(?P<to>[^\s→]+)[^→\n]*\n(?P=name) (?P<var>\w+) = )[\w.'() -]*$",
+        one,
+        body,
+    )
+
+
+def steps_between(of, place, to):
+    """How many steps lie between a place and an earlier one, or None."""
+    names = dict(zip((one[0] for one in of["places"]), of["places_by_name"]))
+    above = {new: names.get(one[1]) for one, new in zip(of["places"], of["places_by_name"])}
+    steps = 0
+    while place and place != to:
+        place, steps = above.get(place), steps + 1
+    return steps if place else None
+
+
+def passed_on(text, of, place, lemmas, functions, c):
+    """Counts anew the steps to each state that is passed to a lemma over an earlier place."""
+    states = [c]
+    for bound in re.finditer(r"let ([\w'-]+) = ([\w.'() -]+?) in(?=\s)", text):
+        if flatten.is_state(bound[2], states, functions):
+            states.append(bound[1])
+    for lemma, to in lemmas.items():
+        steps = steps_between(of, place, to)
+        if steps is None:
+            continue
+        at = 0
+        while True:
+            found = re.compile(flatten.NAME % re.escape(lemma) + r" (?=[\w(])").search(text, at)
+            if not found:
+                break
+            start = at = found.end()
+            end = flatten.group_end(text, start) if text[start] == "(" else start + re.match(r"[\w'-]+(?:\.before)*", text[start:]).end()
+            if flatten.is_state(text[start:end], states, functions) and not text.startswith(".", end):
+                text = text[:start] + c + ".before" * steps + text[end:]
+    for name in reversed(states[1:]):
+        if not re.search(flatten.NAME % re.escape(name) + r"(?![\w'-]| = )", text):
+            text = re.sub(r"\s*let %s = [\w.'() -]+? in(?=\s)" % re.escape(name), "", text, count=1)
+    return text
+
+
+def recounted(body, of):
+    functions = {it[1] for it in flatten.PLACE_FUNCTION.finditer(body)}
+    lemmas = dict(re.findall(r"(?m)^(?:abbrev )?([\w'-]+) :\s+\(\w+ : tie\.([^\s)→]+)", body))
+    for name, place in re.findall(r"(?m)^(?:abbrev )?([\w'-]+) : tie\.([^\s→]+)[^→\n]*→", body):
+        if name not in functions:
+            lemmas[name] = place
+    at_need = {new: place for (_, new), (_, place) in zip(of["needs"], of["asked_at"])}
+    out = []
+    for part in re.split(r"(\n\n(?=(?:--|\S)))", body):
+        head = re.search(r"(?m)^([\w'-]+) (\w+)((?: \w+)*) =", part)
+        need = re.search(r"tie\.Need-([^\s(){}.;,]+)", part)
+        place = at_need.get(need[1]) if need else lemmas.get(head[1]) if head else None
+        if "tie.spec" in part:
+            part = in_place_of_needs(part, of, lemmas, functions, at_need)
+        elif head and place and not flatten.PLACE_FUNCTION.search(part):
+            part = part[: head.end()] + passed_on(part[head.end() :], of, place, lemmas, functions, head[2])
+        out.append(part)
+    return "".join(out)
+
+
+def in_place_of_needs(part, of, lemmas, functions, at_need):
+    """The answers that stand in `tie.spec` itself: each at its need's place."""
+    found = re.search(r"\(\s*tie\.spec(?=\s)", part)
+    terms = split_terms(part[found.end() :])
+    needs = [new for _, new in of["needs"]]
+    given = terms[2 * len(of["loops"]) :]
+    if len(given) != len(needs):
+        return part
+    for term, need in zip(given, needs):
+        binds = re.match(r"\(λ (\w+)", term)
+        if binds:
+            now = flatten.flattened(term, [binds[1]], functions, binds[1])
+            now = passed_on(now, of, at_need[need], lemmas, functions, binds[1])
+            part = part.replace(term, now, 1)
+    return part
+
+
 def relabelled(text, of, name):
     needs, places, fields, loops = tables(of)
     known = set(places.values()) | set(fields.values())
@@ -110,6 +198,7 @@ def relabelled(text, of, name):
     body = re.sub(r"\beq-(?:true|false)_of_not-eq-(?:true|false)' (?=[\w.-]+\.(?:true|false)\b)", "", body)
     body = re.sub(r"(?<=[\w)])\.pre\b", ".requires", body)
     body = re.sub(r"(?<=[\w)])\.inv\b", ".invariant", body)
+    body = flatten.without_unused(recounted(flatten.body_flattened(steps_back(body, of)), of))
     dashed = plain(name) + "-spec"
     body = re.sub(r"(?<![\w.-])%s(?![\w-])" % re.escape(dashed), name + "_spec", body)
     return head + body

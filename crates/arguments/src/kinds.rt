@@ -8,6 +8,7 @@ use lockpage::Update;
 use machine::Kind;
 
 // The kind of a number; a write's lock or an increment's value is the command's value.
+#[tactic(auto, unfolding(machine::specs::Command::kind_numbered))]
 pub fn kind_numbered(n: u32, value: u32) -> Kind
     ensures { result ≡ kind_numbered n value }
 {

@@ -1,6 +1,7 @@
 // A list of block numbers as a query brings it, 4 bytes each, and the questions that the query is asked. The contracts cite the
 // definitions of machine.
 #![tactic(auto)]
+
 ghost use Rattle.std.specs.Prelude.{◌≡◌, ◌+◌, ◌*◌, ◌≤◌, ltb, length};
 ghost use mathlib.Core.List.{all};
 ghost use Rattle.lockpage.specs.Geometry.{present};

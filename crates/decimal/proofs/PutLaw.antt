@@ -15,16 +15,18 @@ use Rattle.octets.specs.Part.{replaced}
 use Rattle.octets.proofs.ReplacedLaw.{replaced_length, replaced_sets, replaced_append}
 use Rattle.octets.proofs.SignedLaw.{Negative, NotNegative}
 use Rattle.decimal.specs.Decimal.{zero_digit, minus, decimal, signed_decimal}
-use Rattle.decimal.proofs.DecimalLaw.{decimal_one, decimal_more, decimal_longer}
+use Rattle.decimal.proofs.DecimalLaw.{decimal_one, decimal_more, decimal_longer, decimal_some}
 
 -- ---- digits
 
 -- a number of one digit
-pub put_one : (l : List ℕ) (at n : ℕ) → n < 10 → at + length (decimal n) ≤ length l
-    → (set l at (zero_digit + n) ≡ replaced l at (decimal n)) × (at + 1 ≡ at + length (decimal n))
+pub put_one : (l : List ℕ) (at n : ℕ) → n < 10 → at + length (decimal n) ≤ length l → set l at (zero_digit + n) ≡ replaced l at (decimal n)
 put_one l at n s h =
     let e : decimal n ≡ (zero_digit + n) ∷ [] = decimal_one n s in
-    (replaced_sets l at ((zero_digit + n) ∷ []) (rw e at h) ∙ ap (replaced l at) (sym e), omega (arith, ap length e))
+    replaced_sets l at ((zero_digit + n) ∷ []) (rw e at h) ∙ ap (replaced l at) (sym e)
+
+pub end_one : (n : ℕ) → n < 10 → length (decimal n) ≡ 1
+end_one n s = ap length (decimal_one n s)
 
 -- the last digit of more: m has the others, and end is the place behind them
 pub record Rest (l : List ℕ) (at n : ℕ) (m : List ℕ) (end : ℕ) : Type 0 where
@@ -48,6 +50,8 @@ put_more l at n m end s h e =
         omega (arith, decimal_longer n s, e.1),
       );
     }
+
+pub ruleset put_steps = (decimal_some, decimal_longer, put_one, end_one, put_more)
 
 -- ---- a sign
 

@@ -1,5 +1,6 @@
 // Numbers as text, in decimal. The contracts cite specs/.
 #![tactic(auto)]
+
 ghost use Rattle.std.specs.Prelude.{◌≡◌, ◌+◌, ◌≤◌, length};
 ghost use Rattle.octets.specs.Part.{replaced};
 ghost use Rattle.decimal.specs.Decimal.{decimal, signed_decimal};
@@ -10,6 +11,7 @@ pub const ZERO_DIGIT: u8 = 48;
 const MINUS: u8 = 45;
 
 // Puts n's digits into out from place at on, and answers the place behind them.
+#[tactic(auto, using(crate::proofs::PutLaw::put_steps))]
 pub fn put(out: &mut [u8], at: usize, n: u64) -> usize
     requires { at + length (decimal n) ≤ length out.old }
     ensures { (out.new ≡ replaced out.old at (decimal n)) × (result ≡ at + length (decimal n)) }

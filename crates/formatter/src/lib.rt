@@ -1,6 +1,7 @@
 // Formatting: what it asks, and what it stores. `format` has no precondition, and its contract fixes the number answered and every byte
 // of memory and disk by the definitions of machine.
 #![tactic(auto)]
+
 mod blank_pages;
 
 ghost use Rattle.std.specs.Prelude.{◌≡◌};

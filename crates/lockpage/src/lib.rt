@@ -1,6 +1,7 @@
 // The lock page: entries, the states that they say, what the commands that change a page store. The contracts cite
 // specs/.
 #![tactic(auto)]
+
 pub mod entries;
 pub mod states;
 pub mod updates;

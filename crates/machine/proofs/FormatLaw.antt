@@ -18,7 +18,7 @@ use Rattle.addressing.proofs.MapLaw.{group_of_below, place_of_below, page_block_
 use Rattle.disk.specs.Disk.{block, with_block}
 use Rattle.disk.proofs.DiskLaw.{block_same, block_other, block_within}
 use Rattle.memory.specs.Layout.{memory_size, salt_size}
-use Rattle.memory.specs.Memory.{groups, held, formatted_memory, none}
+use Rattle.memory.specs.Memory.{groups, formatted_memory, none}
 use Rattle.memory.specs.Claims.{Reads}
 use Rattle.memory.proofs.FormatLaw.{formatted_reads}
 use Rattle.memory.proofs.RangeLaw.{formatted_bytes}

@@ -9,8 +9,7 @@ use lib.Dec.{eqb}
 use Rattle.lockpage.specs.Geometry.{Geometry, Proper}
 use Rattle.lockpage.specs.declared.Update.{Update}
 use Rattle.addressing.specs.Map.{group_of}
-use Rattle.disk.specs.Disk.{block}
-use Rattle.memory.specs.Memory.{salt, count, groups, held, none}
+use Rattle.memory.specs.Memory.{count, groups, held, none}
 use Rattle.memory.specs.Claims.{changed}
 use Rattle.validity.proofs.ValidLaw.{Valid}
 use Rattle.machine.specs.declared.Kind.{Kind}

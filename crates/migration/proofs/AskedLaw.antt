@@ -1,7 +1,6 @@
 -- What the code asks of an old memory, one after the other, is the migration's question. Assumes nothing.
 use mathlib.Core.Path.{◌≡◌, ap, sym, ◌∙◌}
-use mathlib.Core.Bool.{Bool, true, false, not, false≢true}
-use mathlib.Mathlib.Data.Bool.Basic.{eq-true_of_not-eq-false', eq-false_of_not-eq-true'}
+use mathlib.Core.Bool.{Bool, true, false, false≢true}
 use mathlib.Core.List.{List}
 use Prim.Native.Nat.{ℕ, ◌≤◌, ◌<◌}
 use native.Mathlib.Omega.{arith}
@@ -39,10 +38,10 @@ module _ {γ : Geometry} (σ : Proper γ) {n : ℕ} (ω : Wider γ n) (old buffe
       same_validity : r ≡ valid γ old
       same_validity = checked ∙ ap (valid (widened γ n)) laid ∙ valid_moves σ ω old l (omega (arith, same_groups))
 
-      pub not_valid : not r ≡ true → migration_of 1 buffer ≡ migrate γ n old buffer
-      not_valid h = refuses γ n old buffer (λ v b. false≢true (sym (eq-false_of_not-eq-true' h) ∙ same_validity ∙ v))
+      pub not_valid : r ≡ false → migration_of 1 buffer ≡ migrate γ n old buffer
+      not_valid h = refuses γ n old buffer (λ v b. false≢true (sym h ∙ same_validity ∙ v))
 
-      pub all_asked : not r ≡ false → length buffer ≡ memory_size (widened γ n) → (left : List ℕ)
+      pub all_asked : r ≡ true → length buffer ≡ memory_size (widened γ n) → (left : List ℕ)
           → left ≡ replaced buffer 0 (part new 0 (memory_size (widened γ n))) → migration_of 0 left ≡ migrate γ n old buffer
       all_asked h size left copied =
           let long : length new ≡ memory_size (widened γ n) = ap length laid ∙ migrated_length σ ω old l in
@@ -51,4 +50,4 @@ module _ {γ : Geometry} (σ : Proper γ) {n : ℕ} (ω : Wider γ n) (old buffe
           ∙ ap (replaced buffer 0) (part_all new (memory_size (widened γ n)) (omega arith))
           ∙ replaced_all buffer new (long ∙ sym size)
           ∙ laid)
-          ∙ accepts γ n old buffer (sym same_validity ∙ eq-true_of_not-eq-false' h) size
+          ∙ accepts γ n old buffer (sym same_validity ∙ h) size

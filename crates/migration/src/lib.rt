@@ -1,6 +1,7 @@
 // The migration of an old box's memory to the present one. The contract of `migrate`, which has no precondition, fixes its number and
 // every byte of the buffer by the definitions of migration_machine.
 #![tactic(auto)]
+
 ghost use Rattle.std.specs.Prelude.{◌≡◌};
 ghost use Rattle.lockpage.specs.Geometry.{base, present};
 ghost use Rattle.migration_machine.specs.Migrate.{migrated, migrate as migration, migration_at};

@@ -1,6 +1,7 @@
 // The questions that a command is asked before it is carried out: 1 to 6, which every kind is asked, in order; 7 to 10 of an update, in
 // change; and 11 of a new salt. The contracts cite the definitions of machine, and specs/ for those that are asked together.
 #![tactic(auto)]
+
 pub mod change;
 
 ghost use Rattle.std.specs.Prelude.{◌≡◌, [], ◌∷◌, length};

@@ -7,7 +7,7 @@ use Prim.Native.Nat.{ℕ, zero, suc, ◌+◌, ◌-◌, ◌*◌, ◌^◌, ◌≤�
 use native.Mathlib.Nat.{add-zero}
 use native.Mathlib.Omega.{arith}
 use lib.ListN.{length, length-append}
-use Rattle.octets.specs.Part.{part, repeated}
+use Rattle.octets.specs.Part.{repeated}
 use Rattle.octets.specs.Number.{number, bytes, number_at}
 use Rattle.octets.proofs.PartLaw.{part_left, part_right}
 use Rattle.octets.proofs.RepeatedLaw.{repeated_length, repeated_part}

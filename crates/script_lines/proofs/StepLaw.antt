@@ -104,3 +104,14 @@ module _ (l : Line) where
       → judged l ≡ Right (record { kind = l.first; block = l.second; time = l.third; value = l.last })
   unfolding judged
   judged_right b e = rw (judged, b, eq-eqb l.count 3 e)
+
+-- ---- by function
+pub ruleset blank_steps = (is_blank_begun, is_blank_unbegun)
+
+pub ruleset space_steps = (after_space_unbegun, after_space_many, after_space_going)
+
+pub ruleset digit_steps = (unled_unbegun, unled_other, after_digit_zero, after_digit_past, after_digit_going)
+
+pub ruleset byte_steps = (after_byte_space, after_byte_low, after_byte_high, after_byte_digit)
+
+pub ruleset end_steps = (judged_unbegun, judged_other, judged_right)

@@ -1,6 +1,7 @@
 // A script's lines of four values, read byte by byte: what is kept of a line is its values, whatever its length. The contracts cite
 // specs/: the form of a line, and the steps of reading one.
 #![tactic(auto)]
+
 ghost use Rattle.std.specs.Prelude.{◌≡◌, ◌<◌};
 ghost use Rattle.script_lines.specs.Reading as R;
 
@@ -64,6 +65,7 @@ pub fn blank() -> Line
 }
 
 // Whether nothing is read of a line.
+#[tactic(auto, using(crate::proofs::StepLaw::blank_steps))]
 pub fn is_blank(line: Line) -> bool
     ensures { result ≡ R.is_blank line }
 {
@@ -74,6 +76,7 @@ pub fn is_blank(line: Line) -> bool
 }
 
 // A line after a space: a value stands before it, and one more is to come.
+#[tactic(auto, using(crate::proofs::StepLaw::space_steps))]
 fn after_space(line: Line) -> Next
     ensures { result ≡ R.after_space line }
 {
@@ -94,6 +97,7 @@ fn after_space(line: Line) -> Next
 }
 
 // A line after a digit: not behind a leading zero, and the value stays within 32 bits.
+#[tactic(auto, using(crate::proofs::StepLaw::digit_steps))]
 fn after_digit(line: Line, digit: u32) -> Next
     requires { digit < 10 }
     ensures { result ≡ R.after_digit line digit }
@@ -116,6 +120,7 @@ fn after_digit(line: Line, digit: u32) -> Next
 }
 
 // A line after one byte more.
+#[tactic(auto, using(crate::proofs::StepLaw::byte_steps))]
 pub fn after_byte(line: Line, byte: u8) -> Next
     ensures { result ≡ R.after_byte line byte }
 {
@@ -133,6 +138,7 @@ pub fn after_byte(line: Line, byte: u8) -> Next
 }
 
 // A line at its end.
+#[tactic(auto, using(crate::proofs::StepLaw::end_steps))]
 pub fn judge(line: Line) -> Judged
     ensures { result ≡ R.judged line }
 {

@@ -49,17 +49,17 @@ module _ (γ : Geometry) (G : ℕ) (counts : ℕ → ℕ) (entries : ℕ → Ent
     abbrev from_6 : List Question
     from_6 = Put 6 (eqb (length o.content) (content_length γ (Change o.update))) ∷ last (counts (group_of γ o.block)) (entries o.block)
 
-    pub outside : not b ≡ true → 5 ≡ foreseen γ G counts entries (o ∷ [])
-    outside x = says_no 5 (Put 5 (ltb o.block (data_blocks γ G))) from_6 b refl eb x ∙ sym (foreseen_one o)
+    pub outside : b ≡ false → 5 ≡ foreseen γ G counts entries (o ∷ [])
+    outside x = says_no 5 (Put 5 (ltb o.block (data_blocks γ G))) from_6 b refl eb (ap not x) ∙ sym (foreseen_one o)
 
-    pub inside : not b ≡ false → (n : ℕ) (e : Entry) (r : ℕ) → n ≡ counts (group_of γ o.block) → e ≡ entries o.block → r ≡ first_no (last n e)
+    pub inside : b ≡ true → (n : ℕ) (e : Entry) (r : ℕ) → n ≡ counts (group_of γ o.block) → e ≡ entries o.block → r ≡ first_no (last n e)
         → r ≡ foreseen γ G counts entries (o ∷ [])
     inside x n e r en ee er =
         er
         ∙ ap₂ (λ (k : ℕ) (i : Entry). first_no (last k i)) en ee
         ∙ goes_on (Put 6 (eqb (length o.content) (content_length γ (Change o.update)))) (last (counts (group_of γ o.block)) (entries o.block)) true
         (sym (eq-eqb _ _ sized)) refl
-        ∙ goes_on (Put 5 (ltb o.block (data_blocks γ G))) from_6 b eb x
+        ∙ goes_on (Put 5 (ltb o.block (data_blocks γ G))) from_6 b eb (ap not x)
         ∙ sym (foreseen_one o)
 
   -- ---- the unfreeze of the version replaced, if there is one

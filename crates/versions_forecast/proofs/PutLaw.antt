@@ -1,10 +1,9 @@
 -- The number of a put's commands, from the numbers of its three parts. Assumes nothing.
 use mathlib.Core.Path.{◌≡◌, refl, ap, sym, subst, ◌∙◌}
-use mathlib.Core.Bool.{Bool, true, false, not}
+use mathlib.Core.Bool.{Bool, true, false}
 use mathlib.Core.List.{List, [], ◌∷◌, ◌++◌}
 use mathlib.Core.Option.{Option, some}
 use Prim.Native.Nat.{ℕ}
-use borrow.Author.Tests.{not-true, not-false}
 use Rattle.lockpage.specs.Geometry.{Geometry}
 use Rattle.lockpage.specs.declared.Entry.{Entry}
 use Rattle.lockpage.specs.declared.Update.TheVariants.{Unfreeze}
@@ -93,12 +92,12 @@ module _ (γ : Geometry) (G : ℕ) where
             sym (foreseen_then (log_order γ due reserve now lock) counts_1 entries_1 (unfreezes replaced now) (sym ek ∙ y)) ∙ first_passed z
 
         -- the log block's
-        pub log_not_due : k ≡ 0 → not due ≡ true → 0 ≡ foreseen γ G counts entries all
+        pub log_not_due : k ≡ 0 → due ≡ false → 0 ≡ foreseen γ G counts entries all
         unfolding foreseen log_order
-        log_not_due y d = ap number (sym (not-true due d)) ∙ second_passed y
+        log_not_due y d = ap number (sym d) ∙ second_passed y
 
-        pub log_due : k ≡ 0 → not due ≡ false → (r : ℕ) → r ≡ number true → r ≡ foreseen γ G counts entries all
-        log_due y d r er = er ∙ ap number (sym (not-false due d)) ∙ second_passed y
+        pub log_due : k ≡ 0 → due ≡ true → (r : ℕ) → r ≡ number true → r ≡ foreseen γ G counts entries all
+        log_due y d r er = er ∙ ap number (sym d) ∙ second_passed y
 
         -- a reserve that was unfrozen has an expiry within its limit
         pub unfrozen_within : k ≡ 0 → (block ≡ reserve → ⊥) → replaced ≡ some reserve → within_limit (updated Unfreeze now (entries reserve)) ≡ true

@@ -2,8 +2,8 @@
 use mathlib.Core.Path.{◌≡◌, refl, ap, sym, ◌∙◌}
 use mathlib.Core.Bool.{Bool, true, false, not}
 use mathlib.Core.List.{List, [], ◌∷◌}
-use Prim.Native.Nat.{ℕ, ◌+◌}
-use borrow.Author.Tests.{eq-eqb, ne_eqb}
+use Prim.Native.Nat.{ℕ, ◌+◌, ◌≤◌, ◌<◌}
+use borrow.Author.Tests.{eq-eqb, ne_eqb, lt-true, le-false}
 use lib.Dec.{ltb}
 use Rattle.lockpage.specs.Geometry.{Geometry}
 use Rattle.lockpage.specs.declared.Entry.{Entry}
@@ -32,33 +32,32 @@ module _ (n : ℕ) (u : Update) (now : ℕ) (e : Entry) where
   abbrev from_9 : List Question
   from_9 = Put 9 (allowed u (state now e)) ∷ from_10
 
-  -- what the code has found of the count
-  module _ (unexhausted : Bool) (e8 : unexhausted ≡ ltb n count_limit) where
-    pub no_8 : not unexhausted ≡ true → 8 ≡ first_no asked
-    no_8 x = says_no 8 (Put 8 (ltb n count_limit)) from_9 unexhausted refl e8 x
+  -- the count is at its limit
+  pub no_8 : count_limit ≤ n → 8 ≡ first_no asked
+  no_8 x = says_no 8 (Put 8 (ltb n count_limit)) from_9 false refl (le-false _ _ x) refl
 
-    -- it is below its limit; and of the state
-    module _ (p8 : not unexhausted ≡ false) (s : State) (es : s ≡ state now e) (may : Bool) (em : may ≡ allowed u s) where
-      e9 : may ≡ allowed u (state now e)
-      e9 = em ∙ ap (allowed u) es
+  -- it is below its limit; and of the state
+  module _ (p8 : n < count_limit) (s : State) (es : s ≡ state now e) (may : Bool) (em : may ≡ allowed u s) where
+    e9 : may ≡ allowed u (state now e)
+    e9 = em ∙ ap (allowed u) es
 
-      after_8 : first_no from_9 ≡ first_no asked
-      after_8 = goes_on (Put 8 (ltb n count_limit)) from_9 unexhausted e8 p8
+    after_8 : first_no from_9 ≡ first_no asked
+    after_8 = goes_on (Put 8 (ltb n count_limit)) from_9 true (lt-true _ _ p8) refl
 
-      pub no_9 : not may ≡ true → 9 ≡ first_no asked
-      no_9 x = says_no 9 (Put 9 (allowed u (state now e))) from_10 may refl e9 x ∙ after_8
+    pub no_9 : may ≡ false → 9 ≡ first_no asked
+    no_9 x = says_no 9 (Put 9 (allowed u (state now e))) from_10 may refl e9 (ap not x) ∙ after_8
 
-      -- it is allowed; and of the word
-      module _ (p9 : not may ≡ false) (within : Bool) (e10 : within ≡ within_limit (updated u now e)) where
-        after_9 : first_no from_10 ≡ first_no asked
-        after_9 = goes_on (Put 9 (allowed u (state now e))) from_10 may e9 p9 ∙ after_8
+    -- it is allowed; and of the word
+    module _ (p9 : may ≡ true) (within : Bool) (e10 : within ≡ within_limit (updated u now e)) where
+      after_9 : first_no from_10 ≡ first_no asked
+      after_9 = goes_on (Put 9 (allowed u (state now e))) from_10 may e9 (ap not p9) ∙ after_8
 
-        pub no_10 : not within ≡ true → 10 ≡ first_no asked
-        no_10 x = says_no 10 (Put 10 (within_limit (updated u now e))) [] within refl e10 x ∙ after_9
+      pub no_10 : within ≡ false → 10 ≡ first_no asked
+      no_10 x = says_no 10 (Put 10 (within_limit (updated u now e))) [] within refl e10 (ap not x) ∙ after_9
 
-        pub none_no : not within ≡ false → 0 ≡ first_no asked
-        unfolding first_no
-        none_no x = goes_on (Put 10 (within_limit (updated u now e))) [] within e10 x ∙ after_9
+      pub none_no : within ≡ true → 0 ≡ first_no asked
+      unfolding first_no
+      none_no x = goes_on (Put 10 (within_limit (updated u now e))) [] within e10 (ap not x) ∙ after_9
 
 -- ---- the count of block a's group after a command on another block, or on a: g and h are the two groups, n is the count that was read
 

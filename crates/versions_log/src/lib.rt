@@ -1,6 +1,7 @@
 // A log block, filled from the version store's state. The contracts cite specs/, and the definitions of versions_machine and
 // versions_state.
 #![tactic(auto)]
+
 ghost use Rattle.std.specs.Prelude.{◌≡◌};
 ghost use Rattle.lockpage.specs.Geometry.{present};
 ghost use Rattle.versions_machine.specs.Versions.{entered};

@@ -1,7 +1,7 @@
 -- What a valid state's bytes say, and that a state of which all of it holds is valid. Assumes nothing.
 use mathlib.Core.Path.{◌≡◌, ap, ap₂, sym, ◌∙◌}
-use mathlib.Core.Bool.{Bool, true, false, ◌&&◌, not, and-true, false≢true}
-use mathlib.Mathlib.Data.Bool.Basic.{and_intro, and_elim_left, and_elim_right, eq-false_of_not-eq-true, eq-false_of_not-eq-true'}
+use mathlib.Core.Bool.{Bool, true, false, ◌&&◌, and-true, false≢true}
+use mathlib.Mathlib.Data.Bool.Basic.{and_intro, and_elim_left, and_elim_right, eq-false_of_not-eq-true}
 use mathlib.Core.List.{List, all}
 use Prim.Native.Nat.{ℕ, ◌-◌, ◌*◌, ◌≤◌, ◌<◌}
 use native.Mathlib.Omega.{arith}
@@ -77,8 +77,8 @@ module _ (γ : Geometry) (state : List ℕ) where
   pub refused : (Valid → ⊥) → false ≡ is_valid γ state
   refused not-all = sym (eq-false_of_not-eq-true (λ v. not-all (facts v)))
 
-  pub refused_by_lem : (answer r : Bool) → r ≡ answer → not r ≡ true → (Valid → answer ≡ true) → false ≡ is_valid γ state
-  refused_by_lem answer r e n says = refused (λ f. false≢true (sym (eq-false_of_not-eq-true' n) ∙ e ∙ says f))
+  pub refused_by_lem : (answer r : Bool) → r ≡ answer → r ≡ false → (Valid → answer ≡ true) → false ≡ is_valid γ state
+  refused_by_lem answer r e n says = refused (λ f. false≢true (sym n ∙ e ∙ says f))
 
   -- all but the last hold
   module _ (size : length state ≡ state_size γ) (sounds : is_sound γ (versions_in state) ≡ true) (newests : newests_fit γ state ≡ true)

@@ -1,6 +1,7 @@
 // The version store's state: 1,536 bytes that the caller lends, and hands on from call to call. The contracts cite specs/, and the
 // definitions of versions_machine.
 #![tactic(auto)]
+
 ghost use Rattle.std.specs.Prelude.{◌≡◌, true, ◌≤◌, ◌<◌, length};
 ghost use mathlib.Core.List.{all};
 ghost use Rattle.lockpage.specs.Geometry.{present};

@@ -1,6 +1,7 @@
 // What a start and calls change in the version store's state. The contracts cite specs/, and the definitions of versions_machine and
 // versions_state.
 #![tactic(auto)]
+
 ghost use Rattle.std.specs.Prelude.{◌≡◌, true, ◌≤◌, length};
 ghost use Rattle.octets.specs.Number.{with_number};
 ghost use Rattle.lockpage.specs.Geometry.{present};

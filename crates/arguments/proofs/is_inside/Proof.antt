@@ -6,16 +6,16 @@ use Rattle.arguments.proofs.is_inside.Statement.{statement}
 use Rattle.arguments.proofs.is_inside.Tie as tie
 
 read : tie.Need-returns-in-Read
-read c = rw c.enum_told-1.given.1 (ap (ltb _) c.data_blocks-blocks.ensures)
+read c = rw c.in-Read.is (ap (ltb _) c.data_blocks-blocks.ensures)
 
 entry : tie.Need-returns-in-Entry
-entry c = rw c.enum_told-in-Entry-1.given.1 (ap (ltb _) c.data_blocks-blocks.ensures)
+entry c = rw c.in-Entry.is (ap (ltb _) c.data_blocks-blocks.ensures)
 
 page : tie.Need-returns-in-Page
-page c = rw c.enum_told-in-Page-1.given.1
+page c = rw c.in-Page.is
 
 change : tie.Need-returns-in-Change
-change c = rw c.enum_told-in-Change-1.given.1 (ap (ltb _) c.data_blocks-blocks.ensures)
+change c = rw c.in-Change.is (ap (ltb _) c.data_blocks-blocks.ensures)
 
 pub is_inside_spec : {M : Type 1} → statement M
 is_inside_spec =

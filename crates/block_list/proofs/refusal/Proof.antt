@@ -1,6 +1,7 @@
 -- `block_list::refusal` meets its contract: the first no, in order. Assumes nothing.
+use mathlib.Core.Bool.{not}
 use borrow.Author.Rules.{rules}
-use mathlib.Core.Path.{◌≡◌, sym, ◌∙◌}
+use mathlib.Core.Path.{ap, ◌≡◌, sym, ◌∙◌}
 use mathlib.Mathlib.Data.Bool.Basic.{eq-true_of_not-eq-false'}
 use native.Mathlib.Omega.{arith}
 use Rattle.lockpage.specs.Geometry.{present}
@@ -18,128 +19,110 @@ use Rattle.block_list.proofs.refusal.Statement.{statement}
 use Rattle.block_list.proofs.refusal.Tie as tie
 
 -- the states on the way back: question 1 asked, from where 2, 4, 12, 5 and 6 are; and the start
-abbrev of-disk : tie.After-disk-fits → tie.After-valid
+abbrev of-disk : tie.After-disk_fits → tie.After-valid
 of-disk c = c.before.before
 
-abbrev of-time : tie.After-is-timely → tie.After-valid
-of-time c = of-disk c.before.before
+abbrev of-time : tie.After-is_timely → tie.After-valid
+of-time c = c.before.before.before.before
 
-abbrev of-list : tie.After-is-list → tie.After-valid
-of-list c = of-time c.before.before
+abbrev of-list : tie.After-is_list → tie.After-valid
+of-list c = c.before.before.before.before.before.before
 
-abbrev of_range : tie.After-all-below → tie.After-valid
-of_range c = of-list c.before.before.before.before
-
-abbrev of_length : tie.After-count → tie.After-valid
-of_length c = of_range c.before.before
+abbrev of_range : tie.After-all_below → tie.After-valid
+of_range c = c.before.before.before.before.before.before.before.before.before.before
 
 abbrev start : tie.After-valid → tie.Start
 start c = c.before.before.before.before.before
 
 -- the box and the query as they are given
 abbrev box : tie.After-valid → Box
-box c = box_of (start c).args.memory.now (start c).args.disk.now
+box c = box_of c.args.memory.now c.args.disk.now
 
 abbrev query : tie.After-valid → Query
-query c = query_of (start c).args.blocks.now (start c).args.time (start c).args.answer.now
+query c = query_of c.args.blocks.now c.args.time c.args.answer.now
 
 -- what is left where questions 1, 2, 4 and 12 have yes
-left1 : (c : tie.Else1) → Left σ (box c.before) (query c.before) (law.left1 present (box c.before) (query c.before))
+left1 : (c : tie.Else-not-valid) → Left σ (box c.before) (query c.before) (law.left1 present (box c.before) (query c.before))
 left1 c =
-    let asked = c.before in
-    still_left σ (box asked) (query asked) _ _ _ _ (all_left σ (box asked) (query asked)) asked.valid.ensures c.if1.false
+    still_left σ (box c.before) (query c.before) _ _ _ _ (all_left σ (box c.before) (query c.before)) c.valid.ensures (ap not c.if-not-valid.false)
 
-left2 : (c : tie.Else2)
+left2 : (c : tie.Else-not-disk_fits)
     → let asked = of-disk c.before in
     Left σ (box asked) (query asked) (law.left2 present (box asked) (query asked))
 left2 c =
-    let asked = of-disk c.before in
-    still_left σ (box asked) (query asked) _ _ _ _ (left1 c.before.before) c.before.disk-fits.ensures c.if2.false
+    still_left σ (box c.before.before.before) (query c.before.before.before) _ _ _ _ (left1 c.before.before) c.disk_fits.ensures (ap not c.if-not-disk_fits.false)
 
-left4 : (c : tie.Else3)
+left4 : (c : tie.Else-not-is_timely)
     → let asked = of-time c.before in
     Left σ (box asked) (query asked) (law.left4 present (box asked) (query asked))
 left4 c =
-    let asked = of-time c.before in
-    still_left σ (box asked) (query asked) _ _ _ _ (left2 c.before.before) c.before.is-timely.ensures c.if3.false
+    still_left σ (box c.before.before.before.before.before) (query c.before.before.before.before.before) _ _ _ _ (left2 c.before.before) c.is_timely.ensures (ap not c.if-not-is_timely.false)
 
-left12 : (c : tie.Else4)
+left12 : (c : tie.Else-not-is_list)
     → let asked = of-list c.before in
     Left σ (box asked) (query asked) (from_fifth present (box asked) (query asked))
 left12 c =
-    let asked = of-list c.before in
-    still_left σ (box asked) (query asked) _ _ _ _ (left4 c.before.before) c.before.is-list.ensures c.if4.false
+    still_left σ (box c.before.before.before.before.before.before.before) (query c.before.before.before.before.before.before.before) _ _ _ _ (left4 c.before.before) c.is_list.ensures (ap not c.if-not-is_list.false)
 
 -- the memory, once question 1 has yes
-valid-memory : (c : tie.Else1) → Valid present (start c.before).args.memory.now
-valid-memory c = facts σ _ (sym c.before.valid.ensures ∙ eq-true_of_not-eq-false' c.if1.false)
+valid-memory : (c : tie.Else-not-valid) → Valid present (start c.before).args.memory.now
+valid-memory c = facts σ _ (sym c.valid.ensures ∙ c.if-not-valid.false)
 
-invalid : tie.Need-returns
+invalid : tie.Need-returns-then-not-valid
 invalid c =
-    let asked = c.before in
-    refused σ (box asked) (query asked) _ _ _ _ (all_left σ (box asked) (query asked)) asked.valid.ensures c.if1.true
+    refused σ (box c.before) (query c.before) _ _ _ _ (all_left σ (box c.before) (query c.before)) c.valid.ensures (ap not c.if-not-valid.true)
 
-disk_size_is : tie.Need-returns-2
+disk_size_is : tie.Need-returns-then-not-disk_fits
 disk_size_is c =
-    let asked = of-disk c.before in
-    refused σ (box asked) (query asked) _ _ _ _ (left1 c.before.before) c.before.disk-fits.ensures c.if2.true
+    refused σ (box c.before.before.before) (query c.before.before.before) _ _ _ _ (left1 c.before.before) c.disk_fits.ensures (ap not c.if-not-disk_fits.true)
 
-time : tie.Need-returns-3
+time : tie.Need-returns-then-not-is_timely
 time c =
-    let asked = of-time c.before in
-    refused σ (box asked) (query asked) _ _ _ _ (left2 c.before.before) c.before.is-timely.ensures c.if3.true
+    refused σ (box c.before.before.before.before.before) (query c.before.before.before.before.before) _ _ _ _ (left2 c.before.before) c.is_timely.ensures (ap not c.if-not-is_timely.true)
 
-list-size : tie.Need-returns-4
+list-size : tie.Need-returns-then-not-is_list
 list-size c =
-    let asked = of-list c.before in
-    refused σ (box asked) (query asked) _ _ _ _ (left4 c.before.before) c.before.is-list.ensures c.if4.true
+    refused σ (box c.before.before.before.before.before.before.before) (query c.before.before.before.before.before.before.before) _ _ _ _ (left4 c.before.before) c.is_list.ensures (ap not c.if-not-is_list.true)
 
 -- question 5's answer
-ranged : (c : tie.After-all-below)
+ranged : (c : tie.After-all_below)
     → let asked = of_range c in
-    c.all-below.result ≡ passes (list_question5 present (groups present (box asked).memory) (numbers (query asked).blocks))
+    c.all_below.result ≡ passes (list_question5 present (groups present (box asked).memory) (numbers (query asked).blocks))
 ranged c =
-    let counted = c.before in
-    let asked = of_range c in
-    range_answer σ (box asked) (query asked) _ _ _ counted.before.groups.ensures counted.data_blocks_is.ensures c.all-below.ensures
+    range_answer σ (box c.before.before.before.before.before.before.before.before.before.before) (query c.before.before.before.before.before.before.before.before.before.before) _ _ _ c.groups.ensures c.data_blocks-limit.ensures c.all_below.ensures
 
-left5 : (c : tie.Else5)
+left5 : (c : tie.Else-not-all_below)
     → let asked = of_range c.before in
     Left σ (box asked) (query asked) (from_sixth (query asked))
 left5 c =
-    let asked = of_range c.before in
-    still_left σ (box asked) (query asked) _ _ _ _ (left12 c.before.before.before.before) (ranged c.before) c.if5.false
+    still_left σ (box c.before.before.before.before.before.before.before.before.before.before.before) (query c.before.before.before.before.before.before.before.before.before.before.before) _ _ _ _ (left12 c.before.before.before.before) (ranged c.before) (ap not c.if-not-all_below.false)
 
-cast-limit : tie.Need-overflow-cast-limit
+cast-limit : tie.Need-overflow_cast-limit
 cast-limit c =
     let few = (valid-memory c.before.before.before.before.before.before.before.before).most in
-    let small = data_blocks_small σ c.before.groups.result (omega (arith, few, c.before.groups.ensures)) in
+    let small = data_blocks_small σ c.groups.result (omega (arith, few, c.groups.ensures)) in
     search rules
 
-address : tie.Need-returns-5
+address : tie.Need-returns-then-not-all_below
 address c =
-    let asked = of_range c.before in
-    refused σ (box asked) (query asked) _ _ _ _ (left12 c.before.before.before.before) (ranged c.before) c.if5.true
+    refused σ (box c.before.before.before.before.before.before.before.before.before.before.before) (query c.before.before.before.before.before.before.before.before.before.before.before) _ _ _ _ (left12 c.before.before.before.before) (ranged c.before) (ap not c.if-not-all_below.true)
 
-mul-if6 : tie.Need-overflow-mul-if6
+mul-if6 : tie.Need-overflow_mul-count
 mul-if6 c =
-    let listed = c.before.before.before.before.before in
-    let yes = sym listed.before.is-list.ensures ∙ eq-true_of_not-eq-false' listed.if4.false in
-    let few = (list_yes (start (of-list listed.before)).args.blocks.now yes).few in
+    let yes = sym c.is_list.ensures ∙ c.if-not-is_list.false in
+    let few = (list_yes c.args.blocks.now yes).few in
     search rules
 
-answer_length : tie.Need-returns-6
+answer_length : tie.Need-returns-then-answer-count
 answer_length c =
-    let asked = of_length c.before in
-    length_wrong σ (box asked) (query asked) _ c.before.count.ensures (left5 c.before.before) c.if6.true
+    length_wrong σ (box c.before.before.before.before.before.before.before.before.before.before.before.before.before) (query c.before.before.before.before.before.before.before.before.before.before.before.before.before) _ c.count.ensures (left5 c.before.before) c.if-answer-count.true
 
-none : tie.Need-returns-7
+none : tie.Need-returns
 none c =
-    let asked = of_length c.before in
-    accepted σ (box asked) (query asked) _ c.before.count.ensures (left5 c.before.before) c.if6.false
+    accepted σ (box c.before.before.before.before.before.before.before.before.before.before.before.before.before) (query c.before.before.before.before.before.before.before.before.before.before.before.before.before) _ c.count.ensures (left5 c.before.before) c.if-answer-count.false
 
-pub refusal-spec : {M : Type 1} → statement M
-refusal-spec =
+pub refusal_spec : {M : Type 1} → statement M
+refusal_spec =
     tie.close
     (tie.spec
     (λ c κs. search rules)

@@ -7,36 +7,24 @@ use Rattle.block_states.proofs.states.Statement.{statement}
 use Rattle.block_states.proofs.states.Tie as tie
 
 -- the states on the way back: the last time set, the questions asked
-abbrev timed : tie.After-fill-arg2 → tie.After-set-last-time
-timed c = c.before.before.before.before
+refused : tie.Need-returns-then-number-ne-ACCEPTED
+refused c = outcome.refused σ _ _ _ _ _ _ c.refusal-number.ensures c.if-number-ne-ACCEPTED.true
 
-abbrev passed : tie.After-set-last-time → tie.Else1
-passed c = c.before.before
-
-refused : tie.Need-returns
-refused c = outcome.refused σ _ _ _ _ _ _ c.before.refusal.ensures c.if1.true
-
-set-last-time-requires : tie.Need-set-last-time-requires
+set-last-time-requires : tie.Need-set_last_time-requires
 set-last-time-requires c κs =
-    let yes = c.before in
-    outcome.size σ _ _ _ _ _ _ yes.before.refusal.ensures (omega (arith, yes.if1.false))
+    outcome.size σ _ _ _ _ _ _ c.refusal-number.ensures (omega (arith, c.if-number-ne-ACCEPTED.false))
 
-fill-requires : tie.Need-fill-requires
+fill-requires : tie.Need-fill-pages-requires
 fill-requires c κs =
-    let set = timed c in
-    let yes = passed set in
-    outcome.fill_ready σ _ _ _ _ _ _ yes.before.refusal.ensures (omega (arith, yes.if1.left)) _ set.set-last-time.ensures
+    outcome.fill_ready σ _ _ _ _ _ _ c.refusal-number.ensures (omega (arith, c.if-number-ne-ACCEPTED.false)) _ c.set_last_time.ensures
 
-accepted : tie.Need-returns-2
+accepted : tie.Need-returns
 accepted c =
-    let filled = c.before.before in
-    let set = timed filled.before in
-    let yes = passed set in
-    outcome.accepted σ _ _ _ _ _ _ yes.before.refusal.ensures (omega (arith, yes.if1.left)) _ set.set-last-time.ensures _ _
-    filled.fill.ensures.0 filled.fill.ensures.1
+    outcome.accepted σ _ _ _ _ _ _ c.refusal-number.ensures (omega (arith, c.if-number-ne-ACCEPTED.false)) _ c.set_last_time.ensures _ _
+    c.fill-pages.ensures.0 c.fill-pages.ensures.1
 
-pub states-spec : {M : Type 1} → statement M
-states-spec =
+pub states_spec : {M : Type 1} → statement M
+states_spec =
     tie.close
     (tie.spec (λ c κs. search rules) (λ c. search rules) (λ c. search rules) refused set-last-time-requires fill-requires (λ c. search rules)
     (λ c. search rules) accepted)

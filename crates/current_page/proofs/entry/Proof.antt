@@ -11,35 +11,29 @@ use Rattle.current_page.proofs.entry.Statement.{statement}
 use Rattle.current_page.proofs.entry.Tie as tie
 
 -- where it starts, before the block's place is found
-abbrev start : tie.After-place-of → tie.Start
+abbrev start : tie.After-place_of-place → tie.Start
 start c = c.before.before.before.before
 
-place-small : (c : tie.After-place-of) → c.place_of.result < present.entries
-place-small c = omega (arith, c.place_of.ensures, place_of_below σ (start c).args.block)
+place-small : (c : tie.After-place_of-place) → c.place_of-place.result < present.entries
+place-small c = omega (arith, c.place_of-place.ensures, place_of_below σ c.args.block)
 
-load-entry-requires : tie.Need-load-entry-requires
+load-entry-requires : tie.Need-load_entry-requires
 load-entry-requires c κs =
-    let placed = c.before.before in
-    ((start placed).requires.0, omega (arith, place-small placed))
+    (c.requires.0, omega (arith, place-small c.before.before))
 
-load-entry-requires-2 : tie.Need-load-entry-requires-2
+load-entry-requires-2 : tie.Need-load_entry-requires-2
 load-entry-requires-2 c κs =
-    let placed = c.before.before in
-    (has_computed σ _ _ _ (start placed).requires.1 placed.before.Group-of.ensures, omega (arith, place-small placed))
+    (has_computed σ _ _ _ c.requires.1 c.group_of-group.ensures, omega (arith, place-small c.before.before))
 
-returns : tie.Need-returns
+returns : tie.Need-returns-then-held-group
 returns c =
-    let asked = c.before.before in
-    let placed = asked.before in
-    entry_held σ _ _ _ _ asked.held.ensures _ _ placed.before.Group-of.ensures placed.place_of.ensures _ c.before.if1.true
-    c.load-entry.ensures
+    entry_held σ _ _ _ _ c.held-held.ensures _ _ c.group_of-group.ensures c.place_of-place.ensures _ c.if-held-group.true
+    c.load_entry.ensures
 
-returns-2 : tie.Need-returns-2
+returns-2 : tie.Need-returns
 returns-2 c =
-    let asked = c.before.before in
-    let placed = asked.before in
-    entry_other σ _ _ _ _ asked.held.ensures _ _ placed.before.Group-of.ensures placed.place_of.ensures _ c.before.if1.false
-    c.load-entry2.ensures
+    entry_other σ _ _ _ _ c.held-held.ensures _ _ c.group_of-group.ensures c.place_of-place.ensures _ c.if-held-group.false
+    c.load_entry-2.ensures
 
 pub entry_spec : {M : Type 1} → statement M
 entry_spec =

@@ -6,17 +6,13 @@ use Rattle.current_page.proofs.CurrentLaw.{page_held, page_other}
 use Rattle.current_page.proofs.fetch.Statement.{statement}
 use Rattle.current_page.proofs.fetch.Tie as tie
 
-returns : tie.Need-returns
+returns : tie.Need-returns-then-held-group
 returns c =
-    let copied = c.before.before in
-    let same = copied.before.before in
-    (refl, page_held σ _ _ _ _ same.before.held.ensures _ same.if1.true copied.copy-page.ensures)
+    (refl, page_held σ _ _ _ _ c.held.ensures _ c.if-held-group.true c.copy_page.ensures)
 
-returns-2 : tie.Need-returns-2
+returns-2 : tie.Need-returns
 returns-2 c =
-    let copied = c.before.before in
-    let other = copied.before.before in
-    (refl, page_other σ _ _ _ _ other.before.held.ensures _ other.if1.false copied.read-page.ensures)
+    (refl, page_other σ _ _ _ _ c.held.ensures _ c.if-held-group.false c.read_page.ensures)
 
 pub fetch_spec : {M : Type 1} → statement M
 fetch_spec =

@@ -11,44 +11,41 @@ use Rattle.formatter.proofs.format.Statement.{statement}
 use Rattle.formatter.proofs.format.Tie as tie
 
 -- the states on the way back: the memory formatted, the start
-abbrev formatted : tie.After-store-blank-pages-arg → tie.After-format
+abbrev formatted : tie.After-store_blank_pages-arg-1 → tie.After-format
 formatted c = c.before.before.before
 
-abbrev start : tie.After-refusal → tie.Start
-start c = c.before.before.before.before.before.before
+abbrev start : tie.After-refusal-number → tie.Start
+start c = c.before.before.before.before
 
 -- what the questions have seen to
-known : (c : tie.Else1)
+known : (c : tie.Else-number-ne-ACCEPTED)
     → let x = (start c.before).args in
     Formattable present (box_of x.memory.now x.disk.now) x.groups x.salt.now
-known c = formattable σ _ _ _ (sym c.before.refusal.ensures ∙ omega (arith, c.if1.false))
+known c = formattable σ _ _ _ (sym c.refusal-number.ensures ∙ omega (arith, c.if-number-ne-ACCEPTED.false))
 
-refused : tie.Need-returns
+refused : tie.Need-returns-then-number-ne-ACCEPTED
 refused c =
-    let x = (start c.before).args in
-    formatting_refused σ (box_of x.memory.now x.disk.now) x.groups x.salt.now _ c.before.refusal.ensures c.if1.true
+    let x = c.args in
+    formatting_refused σ (box_of x.memory.now x.disk.now) x.groups x.salt.now _ c.refusal-number.ensures c.if-number-ne-ACCEPTED.true
 
 format-requires : tie.Need-format-requires
 format-requires c κs =
     let k = known c.before in
     record { size = k.size; groups_byte = omega (arith, k.most); salt_size_is = k.salt_size_is }
 
-store-requires : tie.Need-store-blank-pages-requires
+store-requires : tie.Need-store_blank_pages-requires
 store-requires c κs =
     let k = known (formatted c).before.before in
     (k.disk, k.most)
 
-accepted : tie.Need-returns-2
+accepted : tie.Need-returns
 accepted c =
-    let stored = c.before.before in
-    let made = formatted stored.before in
-    let asked = made.before.before in
-    let x = (start asked.before).args in
+    let x = c.args in
     formatting_accepted σ (box_of x.memory.now x.disk.now) x.groups x.salt.now _ _
-    (sym asked.before.refusal.ensures ∙ omega (arith, asked.if1.left)) made.format.ensures stored.store-blank-pages.ensures
+    (sym c.refusal-number.ensures ∙ omega (arith, c.if-number-ne-ACCEPTED.false)) c.format.ensures c.store_blank_pages.ensures
 
-pub format-spec : {M : Type 1} → statement M
-format-spec =
+pub format_spec : {M : Type 1} → statement M
+format_spec =
     tie.close
     (tie.spec (λ c κs. search rules) (λ c. search rules) (λ c. search rules) refused format-requires store-requires (λ c. search rules)
     (λ c. search rules) accepted)

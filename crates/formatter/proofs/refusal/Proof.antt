@@ -8,50 +8,44 @@ use Rattle.formatter.proofs.refusal.Statement.{statement}
 use Rattle.formatter.proofs.refusal.Tie as tie
 
 -- where it starts, before the first test
-abbrev start : tie.After-shared-slice-known3 → tie.Start
+abbrev start : tie.After-shared_slice_known-3-1 → tie.Start
 start c = c.before.before.before
 
-few : tie.Need-returns
+few : tie.Need-returns-then-groups-lt1
 few c =
-    let x = (start c.before).args in
-    too_few σ x.memory.now x.disk.now x.groups x.salt.now (omega (arith, c.if1.true))
+    let x = c.args in
+    too_few σ x.memory.now x.disk.now x.groups x.salt.now (omega (arith, c.if-groups-lt1.true))
 
-many : tie.Need-returns-2
+many : tie.Need-returns-then-groups-gt-MOST_GROUPS
 many c =
-    let x = (start c.before.before).args in
-    too_many σ x.memory.now x.disk.now x.groups x.salt.now (omega (arith, c.before.if1.false)) (omega (arith, c.if2.true))
+    let x = c.args in
+    too_many σ x.memory.now x.disk.now x.groups x.salt.now (omega (arith, c.if-groups-lt1.false)) (omega (arith, c.if-groups-gt-MOST_GROUPS.true))
 
-memory : tie.Need-returns-3
+memory : tie.Need-returns-then-memory-ne-MEMORY_SIZE
 memory c =
-    let x = (start c.before.before.before).args in
-    memory_wrong σ x.memory.now x.disk.now x.groups x.salt.now (omega (arith, c.before.before.if1.false))
-    (omega (arith, c.before.if2.false)) c.if3.true
+    let x = c.args in
+    memory_wrong σ x.memory.now x.disk.now x.groups x.salt.now (omega (arith, c.if-groups-lt1.false))
+    (omega (arith, c.if-groups-gt-MOST_GROUPS.false)) c.if-memory-ne-MEMORY_SIZE.true
 
-disk : tie.Need-returns-4
+disk : tie.Need-returns-then-disk-disk_size
 disk c =
-    let sized = c.before in
-    let three = sized.before in
-    let x = (start three.before.before.before).args in
-    disk_wrong σ x.memory.now x.disk.now x.groups x.salt.now (omega (arith, three.before.before.if1.false))
-    (omega (arith, three.before.if2.false)) (omega (arith, three.if3.false)) (λ e. c.if4.true (e ∙ sym sized.disk_size_is.ensures))
+    let x = c.args in
+    disk_wrong σ x.memory.now x.disk.now x.groups x.salt.now (omega (arith, c.if-groups-lt1.false))
+    (omega (arith, c.if-groups-gt-MOST_GROUPS.false)) (omega (arith, c.if-memory-ne-MEMORY_SIZE.false)) (λ e. c.if-disk-disk_size.true (e ∙ sym c.disk_size.ensures))
 
-salt : tie.Need-returns-5
+salt : tie.Need-returns-then-salt-ne-SALT_SIZE
 salt c =
-    let sized = c.before.before in
-    let three = sized.before in
-    let x = (start three.before.before.before).args in
-    salt_wrong σ x.memory.now x.disk.now x.groups x.salt.now (omega (arith, three.before.before.if1.false))
-    (omega (arith, three.before.if2.false)) (omega (arith, three.if3.false)) (omega (arith, c.before.if4.false, sized.disk_size_is.ensures))
-    c.if5.true
+    let x = c.args in
+    salt_wrong σ x.memory.now x.disk.now x.groups x.salt.now (omega (arith, c.if-groups-lt1.false))
+    (omega (arith, c.if-groups-gt-MOST_GROUPS.false)) (omega (arith, c.if-memory-ne-MEMORY_SIZE.false)) (omega (arith, c.if-disk-disk_size.false, c.disk_size.ensures))
+    c.if-salt-ne-SALT_SIZE.true
 
-none : tie.Need-returns-6
+none : tie.Need-returns
 none c =
-    let sized = c.before.before in
-    let three = sized.before in
-    let x = (start three.before.before.before).args in
-    none_wrong σ x.memory.now x.disk.now x.groups x.salt.now (omega (arith, three.before.before.if1.false))
-    (omega (arith, three.before.if2.false)) (omega (arith, three.if3.false)) (omega (arith, c.before.if4.false, sized.disk_size_is.ensures))
-    (omega (arith, c.if5.false))
+    let x = c.args in
+    none_wrong σ x.memory.now x.disk.now x.groups x.salt.now (omega (arith, c.if-groups-lt1.false))
+    (omega (arith, c.if-groups-gt-MOST_GROUPS.false)) (omega (arith, c.if-memory-ne-MEMORY_SIZE.false)) (omega (arith, c.if-disk-disk_size.false, c.disk_size.ensures))
+    (omega (arith, c.if-salt-ne-SALT_SIZE.false))
 
-pub refusal-spec : {M : Type 1} → statement M
-refusal-spec = tie.close (tie.spec few many memory (λ c κs. search rules) disk salt none)
+pub refusal_spec : {M : Type 1} → statement M
+refusal_spec = tie.close (tie.spec few many memory (λ c κs. search rules) disk salt none)

@@ -14,25 +14,20 @@ use Rattle.migration.proofs.lay_out.Tie as tie
 
 -- the buffer is as long as a present memory
 long : (c : tie.Start) → length c.args.new.now ≡ memory_size present
-long c = ap length c.pre.new_zeros ∙ repeated_length (memory_size present) 0
+long c = ap length c.requires.new_zeros ∙ repeated_length (memory_size present) 0
 
 copy-requires : tie.Need-copy-requires
 copy-requires c κs =
     let s = c.before.before.before in
-    (omega (arith, s.pre.old_size), omega (arith, long s))
+    (omega (arith, c.requires.old_size), omega (arith, long s))
 
 copy-requires-2 : tie.Need-copy-requires-2
 copy-requires-2 c κs =
-    let first = c.before.before.before in
-    let s = first.before.before.before.before in
-    (omega (arith, s.pre.old_size), omega (arith, begun_length base_proper present_wider _ s.pre.old_size _ _ s.pre.new_zeros first.copy.ensures))
+    (omega (arith, c.requires.old_size), omega (arith, begun_length base_proper present_wider _ c.requires.old_size _ _ c.requires.new_zeros c.copy.ensures))
 
 returns : tie.Need-returns
 returns c =
-    let second = c.before.before in
-    let first = second.before.before.before.before in
-    let s = first.before.before.before.before in
-    laid_out base_proper present_wider _ s.pre.old_size _ _ _ s.pre.new_zeros first.copy.ensures second.copy2.ensures
+    laid_out base_proper present_wider _ c.requires.old_size _ _ _ c.requires.new_zeros c.copy.ensures c.copy-2.ensures
 
-pub lay-out-spec : {M : Type 1} → statement M
-lay-out-spec = tie.close (tie.spec copy-requires (λ c. search rules) copy-requires-2 (λ c. search rules) returns)
+pub lay_out_spec : {M : Type 1} → statement M
+lay_out_spec = tie.close (tie.spec copy-requires (λ c. search rules) copy-requires-2 (λ c. search rules) returns)

@@ -9,43 +9,33 @@ use Rattle.migration.proofs.AskedLaw.{old_size_wrong, buffer_size_wrong, too_man
 use Rattle.migration.proofs.migrate.Statement.{statement}
 use Rattle.migration.proofs.migrate.Tie as tie
 
-old-wrong : tie.Need-returns
-old-wrong c = old_size_wrong base_proper present_wider _ _ c.if1.true
+old-wrong : tie.Need-returns-then-old-ne-OLD_MEMORY_SIZE
+old-wrong c = old_size_wrong base_proper present_wider _ _ c.if-old-ne-OLD_MEMORY_SIZE.true
 
-buffer-wrong : tie.Need-returns-2
-buffer-wrong c = buffer_size_wrong base_proper present_wider _ _ c.if2.true
+buffer-wrong : tie.Need-returns-then-memory-ne-MEMORY_SIZE
+buffer-wrong c = buffer_size_wrong base_proper present_wider _ _ c.if-memory-ne-MEMORY_SIZE.true
 
-lay-out-requires : tie.Need-lay-out-requires
+lay-out-requires : tie.Need-lay_out-requires
 unfolding repeated
-lay-out-requires c κs = record { old_size = omega (arith, c.before.before.if1.false); new_zeros = refl }
+lay-out-requires c κs = record { old_size = omega (arith, c.if-old-ne-OLD_MEMORY_SIZE.false); new_zeros = refl }
 
-groups-wrong : tie.Need-returns-3
+groups-wrong : tie.Need-returns-then-groups-gt-OLD_MOST_GROUPS
 groups-wrong c =
-    let laid = c.before.before.before.before in
-    let sized = laid.before.before.before in
-    too_many_groups base_proper present_wider _ _ (omega (arith, sized.if1.false)) _ laid.lay-out.ensures _ c.before.groups.ensures
-    (omega (arith, c.if3.true))
+    too_many_groups base_proper present_wider _ _ (omega (arith, c.if-old-ne-OLD_MEMORY_SIZE.false)) _ c.lay_out.ensures _ c.groups.ensures
+    (omega (arith, c.if-groups-gt-OLD_MOST_GROUPS.true))
 
-invalid : tie.Need-returns-4
+invalid : tie.Need-returns-then-not-valid
 invalid c =
-    let few = c.before.before.before in
-    let laid = few.before.before.before.before in
-    let sized = laid.before.before.before in
-    not_valid base_proper present_wider _ _ (omega (arith, sized.if1.false)) _ laid.lay-out.ensures _ few.before.groups.ensures
-    (omega (arith, few.if3.false)) _ c.before.valid.ensures c.if4.true
+    not_valid base_proper present_wider _ _ (omega (arith, c.if-old-ne-OLD_MEMORY_SIZE.false)) _ c.lay_out.ensures _ c.groups.ensures
+    (omega (arith, c.if-groups-gt-OLD_MOST_GROUPS.false)) _ c.valid.ensures c.if-not-valid.true
 
-accepted : tie.Need-returns-5
+accepted : tie.Need-returns
 accepted c =
-    let copied = c.before.before in
-    let checked = copied.before.before.before in
-    let few = checked.before.before.before in
-    let laid = few.before.before.before.before in
-    let buffered = laid.before.before in
-    all_asked base_proper present_wider _ _ (omega (arith, buffered.before.if1.false)) _ laid.lay-out.ensures _ few.before.groups.ensures
-    (omega (arith, few.if3.false)) _ checked.before.valid.ensures checked.if4.false (omega (arith, buffered.if2.false)) _ copied.copy.ensures
+    all_asked base_proper present_wider _ _ (omega (arith, c.if-old-ne-OLD_MEMORY_SIZE.false)) _ c.lay_out.ensures _ c.groups.ensures
+    (omega (arith, c.if-groups-gt-OLD_MOST_GROUPS.false)) _ c.valid.ensures c.if-not-valid.false (omega (arith, c.if-memory-ne-MEMORY_SIZE.false)) _ c.copy.ensures
 
-pub migrate-spec : {M : Type 1} → statement M
-migrate-spec =
+pub migrate_spec : {M : Type 1} → statement M
+migrate_spec =
     tie.close
     (tie.spec old-wrong buffer-wrong (λ c. search rules) lay-out-requires (λ c. search rules) (λ c κs. search rules) groups-wrong
     (λ c. search rules) (λ c κs. search rules) invalid (λ c. search rules) (λ c κs. search rules) (λ c. search rules) accepted)

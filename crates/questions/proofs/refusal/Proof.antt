@@ -1,7 +1,7 @@
 -- `questions::refusal` meets its contract: question 1, then 2 to 6. Assumes nothing.
+use mathlib.Core.Bool.{not}
 use borrow.Author.Rules.{rules}
-use mathlib.Core.Path.{sym, ◌∙◌}
-use mathlib.Mathlib.Data.Bool.Basic.{eq-true_of_not-eq-false'}
+use mathlib.Core.Path.{ap, sym, ◌∙◌}
 use Rattle.lockpage.proofs.GeometryLaw.{present_proper as σ}
 use Rattle.validity.proofs.ValidLaw.{facts}
 use Rattle.machine.specs.declared.Kind.{Kind}
@@ -16,30 +16,30 @@ start c = c.before.before.before.before.before.before
 
 -- the box and the command as they are given
 abbrev box : tie.After-valid → Box
-box c = box_of (start c).args.memory.now (start c).args.disk.now
+box c = box_of c.args.memory.now c.args.disk.now
 
 abbrev given : tie.After-valid → Command
 given c =
-    let x = (start c).args in
+    let x = c.args in
     command_of 0 x.block x.time 0 x.content.now x.proof.now x.answer.now
 
 abbrev kind : tie.After-valid → Kind
-kind c = kind_numbered (start c).args.kind (start c).args.value
+kind c = kind_numbered c.args.kind c.args.value
 
-invalid : tie.Need-returns
+invalid : tie.Need-returns-then-not-valid
 invalid c =
     let asked = c.before in
-    invalid_refused σ (kind asked) (box asked) (given asked) _ asked.valid.ensures c.if1.true
+    invalid_refused σ (kind asked) (box asked) (given asked) _ c.valid.ensures (ap not c.if-not-valid.true)
 
 -- the memory's length, once question 1 has yes
 refusal-requires : tie.Need-refusal-requires
-refusal-requires c κs = (facts σ _ (sym c.before.valid.ensures ∙ eq-true_of_not-eq-false' c.if1.false)).size
+refusal-requires c κs = (facts σ _ (sym c.valid.ensures ∙ c.if-not-valid.false)).size
 
-arguments : tie.Need-returns-2
+arguments : tie.Need-returns
 arguments c =
     let passed = c.before in
     let asked = passed.before in
-    arguments_answer σ (kind asked) (box asked) (given asked) _ asked.valid.ensures passed.if1.false _ c.refusal.ensures
+    arguments_answer σ (kind asked) (box asked) (given asked) _ c.valid.ensures (ap not c.if-not-valid.false) _ c.refusal.ensures
 
-pub refusal-spec : {M : Type 1} → statement M
-refusal-spec = tie.close (tie.spec (λ c κs. search rules) invalid refusal-requires arguments)
+pub refusal_spec : {M : Type 1} → statement M
+refusal_spec = tie.close (tie.spec (λ c κs. search rules) invalid refusal-requires arguments)

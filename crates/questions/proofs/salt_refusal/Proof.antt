@@ -6,18 +6,18 @@ use Rattle.questions.proofs.salt_refusal.Statement.{statement}
 use Rattle.questions.proofs.salt_refusal.Tie as tie
 
 -- where it starts, before the salt is compared
-abbrev start : tie.After-has-salt → tie.Start
+abbrev start : tie.After-has_salt → tie.Start
 start c = c.before.before.before
 
-same : tie.Need-returns
+same : tie.Need-returns-then-has_salt
 same c =
-    let x = (start c.before).args in
-    same_salt σ x.memory.now x.content.now _ c.before.has-salt.ensures c.if1.true
+    let x = c.args in
+    same_salt σ x.memory.now x.content.now _ c.has_salt.ensures c.if-has_salt.true
 
-other : tie.Need-returns-2
+other : tie.Need-returns
 other c =
-    let x = (start c.before).args in
-    other_salt σ x.memory.now x.content.now _ c.before.has-salt.ensures c.if1.false
+    let x = c.args in
+    other_salt σ x.memory.now x.content.now _ c.has_salt.ensures c.if-has_salt.false
 
-pub salt-refusal-spec : {M : Type 1} → statement M
-salt-refusal-spec = tie.close (tie.spec (λ c κs. search rules) same other)
+pub salt_refusal_spec : {M : Type 1} → statement M
+salt_refusal_spec = tie.close (tie.spec (λ c κs. search rules) same other)

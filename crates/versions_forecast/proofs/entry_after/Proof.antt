@@ -12,29 +12,26 @@ use Rattle.versions_forecast.proofs.entry_after.Statement.{statement}
 use Rattle.versions_forecast.proofs.entry_after.Tie as tie
 
 -- where it starts, before the entry is found
-abbrev start : tie.After-entry → tie.Start
+abbrev start : tie.After-entry-e → tie.Start
 start c = c.before.before.before
 
 updated-requires : tie.Need-updated-requires
 updated-requires c κs =
-    let found = c.before in
-    let x = (start found).args in (
-      (start found).requires.early,
-      subst (λ (i : Entry). within_limit (updated x.u x.time i) ≡ true) (sym found.entry.ensures) ((start found).requires.within c.if1.true),
+    let x = c.args in (
+      c.requires.early,
+      subst (λ (i : Entry). within_limit (updated x.u x.time i) ≡ true) (sym c.entry-e.ensures) (c.requires.within c.if-a-block.true),
     )
 
-own : tie.Need-returns
+own : tie.Need-returns-then-a-block
 own c =
-    let found = c.before.before in
-    let x = (start found).args in
-    entry_own (current_entry present (box_of x.memory.now x.disk.now)) x.u x.block x.time x.a _ found.entry.ensures _
-    c.before.if1.true c.updated.ensures
+    let x = c.args in
+    entry_own (current_entry present (box_of x.memory.now x.disk.now)) x.u x.block x.time x.a _ c.entry-e.ensures _
+    c.if-a-block.true c.updated.ensures
 
-kept : tie.Need-returns-2
+kept : tie.Need-returns
 kept c =
-    let found = c.before in
-    let x = (start found).args in
-    entry_kept (current_entry present (box_of x.memory.now x.disk.now)) x.u x.block x.time x.a _ found.entry.ensures c.if1.false
+    let x = c.args in
+    entry_kept (current_entry present (box_of x.memory.now x.disk.now)) x.u x.block x.time x.a _ c.entry-e.ensures c.if-a-block.false
 
-pub entry-after-spec : {M : Type 1} → statement M
-entry-after-spec = tie.close (tie.spec (λ c κs. search rules) updated-requires own kept)
+pub entry_after_spec : {M : Type 1} → statement M
+entry_after_spec = tie.close (tie.spec (λ c κs. search rules) updated-requires own kept)

@@ -21,10 +21,10 @@ use Rattle.versions_forecast.proofs.forecast.Statement.{statement}
 use Rattle.versions_forecast.proofs.forecast.Tie as tie
 
 -- the states on the way back: the first command's number found, the start
-abbrev first : tie.After-unfreeze-refusal → tie.After-write-refusal
+abbrev first : tie.After-unfreeze_refusal-second → tie.After-write_refusal-first
 first c = c.before.before
 
-abbrev start : tie.After-write-refusal → tie.Start
+abbrev start : tie.After-write_refusal-first → tie.Start
 start c = c.before.before.before.before
 
 -- the box, its groups, counts and entries
@@ -41,74 +41,73 @@ abbrev entries : tie.Start → ℕ → Entry
 entries c = current_entry present (box c)
 
 -- the first command's number, with all its questions
-written : (c : tie.After-write-refusal)
+written : (c : tie.After-write_refusal-first)
     → let s = start c in
     let x = s.args in
-    c.write-refusal.result
+    c.write_refusal-first.result
     ≡ first_no
     (questions_left present (number s) (counts s (group_of present x.block)) (entries s x.block) (writing x.block x.time x.lock x.content.now))
 written c =
     let s = start c in
-    let x = s.args in
-    c.write-refusal.ensures
-    ∙ write_left present (box s) x.block x.time x.lock x.reserve (counts s (group_of present x.block)) x.content.now s.pre
+    let x = c.args in
+    c.write_refusal-first.ensures
+    ∙ write_left present (box s) x.block x.time x.lock x.reserve (counts s (group_of present x.block)) x.content.now c.requires
 
-write-refusal-requires : tie.Need-write-refusal-requires
-write-refusal-requires c κs = let s = c.before.before.before in has_count σ _ _ s.requires.valid.memory s.requires.range
+write-refusal-requires : tie.Need-write_refusal-first-requires
+write-refusal-requires c κs = has_count σ _ _ c.requires.valid.memory c.requires.range
 
-refused : tie.Need-returns
+refused : tie.Need-returns-then-first-ne-ACCEPTED
 refused c =
     let s = start c.before in
-    let x = s.args in
+    let x = c.args in
     first_refused present (number s) (counts s) (entries s) x.block x.time x.lock x.content.now (block_named x.replaced) x.due x.reserve
-    _ (written c.before) c.if1.true
+    _ (written c.before) c.if-first-ne-ACCEPTED.true
 
-unfreeze-refusal-requires : tie.Need-unfreeze-refusal-requires
+unfreeze-refusal-requires : tie.Need-unfreeze_refusal-second-requires
 unfreeze-refusal-requires c κs =
-    let s = start c.before in
-    record { valid = s.pre.valid; early = s.pre.early; lock_fits = s.pre.lock_fits }
+    record { valid = c.requires.valid; early = c.requires.early; lock_fits = c.requires.lock_fits }
 
-refused-second : tie.Need-returns-2
+refused-second : tie.Need-returns-then-second-ne-ACCEPTED
 refused-second c =
     let asked = c.before in
     let s = start (first asked) in
-    let x = s.args in
+    let x = c.args in
     second_refused present (number s) (counts s) (entries s) x.block x.time x.lock x.content.now (block_named x.replaced) x.due x.reserve
-    _ (written (first asked)) (omega (arith, asked.before.if1.false)) _ asked.unfreeze_refusal.ensures c.if2.true
+    _ (written (first asked)) (omega (arith, c.if-first-ne-ACCEPTED.false)) _ c.unfreeze_refusal-second.ensures c.if-second-ne-ACCEPTED.true
 
-not-due : tie.Need-returns-3
+not-due : tie.Need-returns-then-not-due
 not-due c =
     let asked = c.before.before in
     let s = start (first asked) in
-    let x = s.args in
+    let x = c.args in
     log_not_due present (number s) (counts s) (entries s) x.block x.time x.lock x.content.now (block_named x.replaced) x.due x.reserve
-    _ (written (first asked)) (omega (arith, asked.before.if1.false)) _ asked.unfreeze_refusal.ensures (omega (arith, c.before.if2.false))
-    c.if3.true
+    _ (written (first asked)) (omega (arith, c.if-first-ne-ACCEPTED.false)) _ c.unfreeze_refusal-second.ensures (omega (arith, c.if-second-ne-ACCEPTED.false))
+    c.if-not-due.true
 
-log-refusal-requires : tie.Need-log-refusal-requires
+log-refusal-requires : tie.Need-log_refusal-requires
 log-refusal-requires c κs =
     let asked = c.before.before in
     let s = start (first asked) in
-    let x = s.args in
-    let other = available_other present (box s) x.time x.reserve x.block s.pre.available in
+    let x = c.args in
+    let other = available_other present (box s) x.time x.reserve x.block c.requires.available in
     record {
-      valid = s.pre.valid;
-      early = s.pre.early;
+      valid = c.requires.valid;
+      early = c.requires.early;
       other = other;
       within =
           unfrozen_within present (number s) (counts s) (entries s) x.block x.time x.lock x.content.now (block_named x.replaced) x.due
-          x.reserve _ (written (first asked)) (omega (arith, asked.before.if1.false)) _ asked.unfreeze_refusal.ensures
-          (omega (arith, c.before.if2.false)) other;
+          x.reserve _ (written (first asked)) (omega (arith, c.if-first-ne-ACCEPTED.false)) _ c.unfreeze_refusal-second.ensures
+          (omega (arith, c.if-second-ne-ACCEPTED.false)) other;
     }
 
-due : tie.Need-returns-4
+due : tie.Need-returns
 due c =
     let asked = c.before.before.before in
     let s = start (first asked) in
-    let x = s.args in
+    let x = c.args in
     log_due present (number s) (counts s) (entries s) x.block x.time x.lock x.content.now (block_named x.replaced) x.due x.reserve
-    _ (written (first asked)) (omega (arith, asked.before.if1.false)) _ asked.unfreeze_refusal.ensures (omega (arith, c.before.before.if2.false))
-    c.before.if3.false _ c.log-refusal.ensures
+    _ (written (first asked)) (omega (arith, c.if-first-ne-ACCEPTED.false)) _ c.unfreeze_refusal-second.ensures (omega (arith, c.if-second-ne-ACCEPTED.false))
+    c.if-not-due.false _ c.log_refusal.ensures
 
-pub forecast-spec : {M : Type 1} → statement M
-forecast-spec = tie.close (tie.spec write-refusal-requires refused unfreeze-refusal-requires refused-second not-due log-refusal-requires due)
+pub forecast_spec : {M : Type 1} → statement M
+forecast_spec = tie.close (tie.spec write-refusal-requires refused unfreeze-refusal-requires refused-second not-due log-refusal-requires due)

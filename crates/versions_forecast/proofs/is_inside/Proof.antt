@@ -8,7 +8,7 @@ use Rattle.versions_forecast.proofs.is_inside.Statement.{statement}
 use Rattle.versions_forecast.proofs.is_inside.Tie as tie
 
 returns : tie.Need-returns
-returns c = ap (ltb _) (c.data_blocks_is.ensures ∙ ap (data_blocks present) c.before.groups.ensures)
+returns c = ap (ltb _) (c.data_blocks.ensures ∙ ap (data_blocks present) c.groups.ensures)
 
-pub is-inside-spec : {M : Type 1} → statement M
-is-inside-spec = tie.close (tie.spec (λ c κs. search rules) (λ c κs. search rules) returns)
+pub is_inside_spec : {M : Type 1} → statement M
+is_inside_spec = tie.close (tie.spec (λ c κs. search rules) (λ c κs. search rules) returns)

@@ -5,7 +5,7 @@ use mathlib.Core.Path.{ap, sym, ◌∙◌}
 use mathlib.Core.List.{List, [], ◌∷◌}
 use mathlib.Core.Option.{some}
 use Prim.Native.Nat.{ℕ, ◌<◌}
-use borrow.Author.Tests.{ltb-true, not-false}
+use borrow.Author.Tests.{ltb-true}
 use Rattle.octets.specs.Part.{repeated}
 use Rattle.octets.proofs.RepeatedLaw.{repeated_length}
 use Rattle.lockpage.specs.Geometry.{present}
@@ -28,7 +28,7 @@ use Rattle.versions_forecast.proofs.log_refusal.Statement.{statement}
 use Rattle.versions_forecast.proofs.log_refusal.Tie as tie
 
 -- where it starts, before the reserve's range is found
-abbrev start : tie.After-is-inside → tie.Start
+abbrev start : tie.After-is_inside → tie.Start
 start c = c.before.before.before
 
 -- the groups of the box; the commands before this one, and the box's counts and entries after them; this one
@@ -50,49 +50,48 @@ entries c = entries_past (current c) (earlier c)
 abbrev order : tie.Start → Order
 order c = writing c.args.reserve c.args.time c.args.lock (repeated (block_size present) 0)
 
-below : (c : tie.Else1) → (start c.before).args.reserve < data_blocks present (number (start c.before))
-below c = ltb-true _ _ (sym c.before.is-inside.ensures ∙ not-false _ c.if1.false)
+below : (c : tie.Else-not-is_inside) → (start c.before).args.reserve < data_blocks present (number (start c.before))
+below c = ltb-true _ _ (sym c.is_inside.ensures ∙ c.if-not-is_inside.false)
 
-is-inside-requires : tie.Need-is-inside-requires
-is-inside-requires c κs = (facts σ _ c.before.before.requires.valid.memory).size
+is-inside-requires : tie.Need-is_inside-requires
+is-inside-requires c κs = (facts σ _ c.requires.valid.memory).size
 
-out : tie.Need-returns
+out : tie.Need-returns-then-not-is_inside
 unfolding log_order
 out c =
     let s = start c.before in
-    outside present (number s) (counts s) (entries s) (order s) (repeated_length (block_size present) 0) _ c.before.is-inside.ensures c.if1.true
+    outside present (number s) (counts s) (entries s) (order s) (repeated_length (block_size present) 0) _ c.is_inside.ensures c.if-not-is_inside.true
 
-count-before-log-requires : tie.Need-count-before-log-requires
-count-before-log-requires c κs = has_count σ _ _ (start c.before).requires.valid.memory (below c)
+count-before-log-requires : tie.Need-count_before_log-count-requires
+count-before-log-requires c κs = has_count σ _ _ c.requires.valid.memory (below c)
 
-entry-after-requires : tie.Need-entry-after-requires
+entry-after-requires : tie.Need-entry_after-e-requires
 entry-after-requires c κs =
-    let s = start c.before.before in
-    let real = is_some σ _ _ s.pre.valid.memory (below c.before) in
+    let real = is_some σ _ _ c.requires.valid.memory (below c.before) in
     record {
-      memory_size_is = (facts σ _ s.pre.valid.memory).size;
-      group = has_group_of σ _ _ _ s.pre.valid.disk (below c.before);
-      early = s.pre.early;
-      within = λ e. s.pre.within (named_some s.args.replaced (λ n. real (e ∙ n)) ∙ ap some (sym e));
+      memory_size_is = (facts σ _ c.requires.valid.memory).size;
+      group = has_group_of σ _ _ _ c.requires.valid.disk (below c.before);
+      early = c.requires.early;
+      within = λ e. c.requires.within (named_some c.args.replaced (λ n. real (e ∙ n)) ∙ ap some (sym e));
     }
 
-asked : tie.Need-returns-2
+asked : tie.Need-returns
 unfolding log_order
 asked c =
     let counted = c.before.before in
     let ranged = counted.before.before in
     let s = start ranged in
-    let x = s.args in
-    let real = is_some σ _ _ s.pre.valid.memory (below counted.before) in
-    inside present (number s) (counts s) (entries s) (order s) (repeated_length (block_size present) 0) _ ranged.is-inside.ensures
-    counted.before.if1.false _ _ _
-    (counted.count-before-log.ensures
+    let x = c.args in
+    let real = is_some σ _ _ c.requires.valid.memory (below counted.before) in
+    inside present (number s) (counts s) (entries s) (order s) (repeated_length (block_size present) 0) _ c.is_inside.ensures
+    c.if-not-is_inside.false _ _ _
+    (c.count_before_log-count.ensures
     ∙ ap (λ (k : ℕ → ℕ). k (group_of present x.reserve))
     (counts_before_log present (count x.memory.now) x.block x.time x.lock (block_named x.replaced)))
-    (c.before.entry_after.ensures ∙ entry_before_log (current s) x.block x.time x.lock x.replaced x.reserve s.pre.other real)
-    c.order-refusal.ensures
+    (c.entry_after-e.ensures ∙ entry_before_log (current s) x.block x.time x.lock x.replaced x.reserve c.requires.other real)
+    c.order_refusal.ensures
 
-pub log-refusal-spec : {M : Type 1} → statement M
-log-refusal-spec =
+pub log_refusal_spec : {M : Type 1} → statement M
+log_refusal_spec =
     tie.close
     (tie.spec is-inside-requires out count-before-log-requires entry-after-requires (λ c κs. search rules) asked)

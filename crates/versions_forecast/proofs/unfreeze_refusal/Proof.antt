@@ -4,7 +4,7 @@ use borrow.Author.Rules.{rules}
 use mathlib.Core.Path.{refl, sym, ◌∙◌}
 use mathlib.Core.List.{[], ◌∷◌}
 use Prim.Native.Nat.{ℕ, ◌<◌}
-use borrow.Author.Tests.{ltb-true, not-false}
+use borrow.Author.Tests.{ltb-true}
 use Rattle.lockpage.specs.Geometry.{present}
 use Rattle.lockpage.specs.declared.Entry.{Entry}
 use Rattle.lockpage.proofs.GeometryLaw.{present_proper as σ}
@@ -23,7 +23,7 @@ use Rattle.versions_forecast.proofs.unfreeze_refusal.Statement.{statement}
 use Rattle.versions_forecast.proofs.unfreeze_refusal.Tie as tie
 
 -- where it starts, before the block's range is found
-abbrev start : tie.After-is-inside → tie.Start
+abbrev start : tie.After-is_inside → tie.Start
 start c = c.before.before.before.before
 
 -- the groups of the box, and its counts and entries after the write
@@ -38,45 +38,44 @@ entries c =
     let x = c.args in
     entries_past (current_entry present (box_of x.memory.now x.disk.now)) (writing x.block x.time x.lock [] ∷ [])
 
-below : (c : tie.Else2) → (start c.before).args.replaced < data_blocks present (number (start c.before))
-below c = ltb-true _ _ (sym c.before.is-inside.ensures ∙ not-false _ c.if2.false)
+below : (c : tie.Else-not-is_inside) → (start c.before).args.replaced < data_blocks present (number (start c.before))
+below c = ltb-true _ _ (sym c.is_inside.ensures ∙ c.if-not-is_inside.false)
 
-none : tie.Need-returns
+none : tie.Need-returns-then-replaced-eq-NO_BLOCK
 none c =
     let s = c.before.before.before in
-    unfreeze_none present (number s) (counts s) (entries s) s.args.replaced s.args.time c.if1.true
+    unfreeze_none present (number s) (counts s) (entries s) c.args.replaced c.args.time c.if-replaced-eq-NO_BLOCK.true
 
-is-inside-requires : tie.Need-is-inside-requires
-is-inside-requires c κs = (facts σ _ c.before.before.before.requires.valid.memory).size
+is-inside-requires : tie.Need-is_inside-requires
+is-inside-requires c κs = (facts σ _ c.requires.valid.memory).size
 
-out : tie.Need-returns-2
+out : tie.Need-returns-then-not-is_inside
 out c =
     let s = start c.before in
-    unfreeze_some present (number s) (counts s) (entries s) s.args.replaced s.args.time _ c.before.before.if1.false
-    (outside present (number s) (counts s) (entries s) (unfreezing s.args.replaced s.args.time) refl _ c.before.is-inside.ensures c.if2.true)
+    unfreeze_some present (number s) (counts s) (entries s) c.args.replaced c.args.time _ c.if-replaced-eq-NO_BLOCK.false
+    (outside present (number s) (counts s) (entries s) (unfreezing c.args.replaced c.args.time) refl _ c.is_inside.ensures c.if-not-is_inside.true)
 
-count-after-requires : tie.Need-count-after-requires
-count-after-requires c κs = has_count σ _ _ (start c.before).requires.valid.memory (below c)
+count-after-requires : tie.Need-count_after-count-requires
+count-after-requires c κs = has_count σ _ _ c.requires.valid.memory (below c)
 
-entry-after-requires : tie.Need-entry-after-requires
+entry-after-requires : tie.Need-entry_after-e-requires
 entry-after-requires c κs =
-    let s = start c.before.before in
     record {
-      memory_size_is = (facts σ _ s.pre.valid.memory).size;
-      group = has_group_of σ _ _ _ s.pre.valid.disk (below c.before);
-      early = s.pre.early;
-      within = λ e. lock_within s.args.lock s.args.time _ s.pre.lock_fits;
+      memory_size_is = (facts σ _ c.requires.valid.memory).size;
+      group = has_group_of σ _ _ _ c.requires.valid.disk (below c.before);
+      early = c.requires.early;
+      within = λ e. lock_within c.args.lock c.args.time _ c.requires.lock_fits;
     }
 
-asked : tie.Need-returns-3
+asked : tie.Need-returns
 asked c =
     let counted = c.before.before in
     let ranged = counted.before.before in
     let s = start ranged in
-    unfreeze_some present (number s) (counts s) (entries s) s.args.replaced s.args.time _ ranged.before.if1.false
-    (inside present (number s) (counts s) (entries s) (unfreezing s.args.replaced s.args.time) refl _ ranged.is-inside.ensures
-    counted.before.if2.false _ _ _ counted.count_after_lem.ensures.0 c.before.entry_after.ensures c.order-refusal.ensures)
+    unfreeze_some present (number s) (counts s) (entries s) c.args.replaced c.args.time _ c.if-replaced-eq-NO_BLOCK.false
+    (inside present (number s) (counts s) (entries s) (unfreezing c.args.replaced c.args.time) refl _ c.is_inside.ensures
+    c.if-not-is_inside.false _ _ _ c.count_after-count.ensures.0 c.entry_after-e.ensures c.order_refusal.ensures)
 
-pub unfreeze-refusal-spec : {M : Type 1} → statement M
-unfreeze-refusal-spec =
+pub unfreeze_refusal_spec : {M : Type 1} → statement M
+unfreeze_refusal_spec =
     tie.close (tie.spec none is-inside-requires out count-after-requires entry-after-requires (λ c κs. search rules) asked)

@@ -13,7 +13,7 @@ use Rattle.versions_forecast.proofs.write_refusal.Statement.{statement}
 use Rattle.versions_forecast.proofs.write_refusal.Tie as tie
 
 -- where it starts, before the length is tested; the content's length; the block's count, and that it is the one read
-abbrev start : tie.Else1 → tie.Start
+abbrev start : tie.Else-content-ne-BLOCK_SIZE → tie.Start
 start c = c.before.before.before
 
 abbrev size : tie.Start → ℕ
@@ -23,22 +23,22 @@ abbrev number : tie.Start → ℕ
 number c = count c.args.memory.now (group_of present c.args.block)
 
 counted : (c : tie.After-count) → c.count.result ≡ number (start c.before.before)
-counted c = c.count.ensures ∙ ap (count (start c.before.before).args.memory.now) c.before.Group-of.ensures
+counted c = c.count.ensures ∙ ap (count c.args.memory.now) c.group_of.ensures
 
-length_wrong : tie.Need-returns
-length_wrong c = let s = c.before.before.before in no_6 (size s) (block_size present) (number s) c.if1.true
+length_wrong : tie.Need-returns-then-content-ne-BLOCK_SIZE
+length_wrong c = let s = c.before.before.before in no_6 (size s) (block_size present) (number s) c.if-content-ne-BLOCK_SIZE.true
 
-none : tie.Need-returns-2
+none : tie.Need-returns-then-count-lt-COUNT_LIMIT
 none c =
     let sized = c.before.before.before in
-    none_no (size (start sized)) (block_size present) (number (start sized)) (omega (arith, sized.if1.false))
-    (omega (arith, counted c.before, c.if2.true))
+    none_no (size (start sized)) (block_size present) (number (start sized)) (omega (arith, c.if-content-ne-BLOCK_SIZE.false))
+    (omega (arith, counted c.before, c.if-count-lt-COUNT_LIMIT.true))
 
-exhausted : tie.Need-returns-3
+exhausted : tie.Need-returns
 exhausted c =
     let sized = c.before.before.before in
-    no_8 (size (start sized)) (block_size present) (number (start sized)) (omega (arith, sized.if1.false))
-    (omega (arith, counted c.before, c.if2.false))
+    no_8 (size (start sized)) (block_size present) (number (start sized)) (omega (arith, c.if-content-ne-BLOCK_SIZE.false))
+    (omega (arith, counted c.before, c.if-count-lt-COUNT_LIMIT.false))
 
-pub write-refusal-spec : {M : Type 1} → statement M
-write-refusal-spec = tie.close (tie.spec length_wrong (λ c κs. search rules) (λ c κs. search rules) none exhausted)
+pub write_refusal_spec : {M : Type 1} → statement M
+write_refusal_spec = tie.close (tie.spec length_wrong (λ c κs. search rules) (λ c κs. search rules) none exhausted)

@@ -10,22 +10,17 @@ use Rattle.versions_log.proofs.fill_full_log.Tie as tie
 
 copy-requires : tie.Need-copy-requires
 copy-requires c κs =
-    let pre = c.before.before.before.requires.log in
+    let pre = c.requires.log in
     (omega (arith, (facts present _ pre.valid).size), omega (arith, pre.out_size))
 
 returns : tie.Need-returns
 unfolding Below
 returns c =
-    let last = c.before.before in
-    let third = last.before.before.before.before in
-    let second = third.before.before.before.before in
-    let first = second.before.before.before.before in
-    let known = first.before.before.before in
-    let pre = known.before.requires in
-    full_filled present _ _ _ (λ i. omega (arith, known.shared-slice-known.given i)) pre.log.valid pre.log.out_size first.copy.ensures
-    _ _ _ _ _ _ pre.last second.store-u32.ensures third.store-u322.ensures last.store-u64.ensures
+    let pre = c.requires in
+    full_filled present _ _ _ (λ i. omega (arith, c.shared_slice_known-1.given i)) pre.log.valid pre.log.out_size c.copy.ensures
+    _ _ _ _ _ _ pre.last c.store_u32.ensures c.store_u32-2.ensures c.store_u64.ensures
 
-pub fill-full-log-spec : {M : Type 1} → statement M
-fill-full-log-spec =
+pub fill_full_log_spec : {M : Type 1} → statement M
+fill_full_log_spec =
     tie.close
     (tie.spec copy-requires (λ c κs. search rules) (λ c. search rules) (λ c κs. search rules) (λ c κs. search rules) (λ c. search rules) returns)

@@ -10,20 +10,16 @@ use Rattle.versions_log.proofs.fill_log.Tie as tie
 
 copy-requires : tie.Need-copy-requires
 copy-requires c κs =
-    let pre = c.before.before.before.requires in
+    let pre = c.requires in
     (omega (arith, (facts present _ pre.valid).size), omega (arith, pre.out_size))
 
 returns : tie.Need-returns
 unfolding Below
 returns c =
-    let last = c.before.before in
-    let second = last.before.before.before.before in
-    let first = second.before.before.before.before in
-    let known = first.before.before.before in
-    let pre = known.before.requires in
-    log_filled present _ _ _ (λ i. omega (arith, known.shared-slice-known.given i)) pre.valid pre.out_size first.copy.ensures _ _ _
-    second.fill.ensures last.store-u64.ensures
+    let pre = c.requires in
+    log_filled present _ _ _ (λ i. omega (arith, c.shared_slice_known-1.given i)) pre.valid pre.out_size c.copy.ensures _ _ _
+    c.fill.ensures c.store_u64.ensures
 
-pub fill-log-spec : {M : Type 1} → statement M
-fill-log-spec =
+pub fill_log_spec : {M : Type 1} → statement M
+fill_log_spec =
     tie.close (tie.spec copy-requires (λ c κs. search rules) (λ c κs. search rules) (λ c. search rules) returns)

@@ -11,16 +11,15 @@ use Rattle.versions_search.proofs.end_of.Statement.{statement}
 use Rattle.versions_search.proofs.end_of.Tie as tie
 
 groups-requires : tie.Need-groups-requires
-groups-requires c κs = (facts σ _ c.before.requires).size
+groups-requires c κs = (facts σ _ c.requires).size
 
-cast-result : tie.Need-overflow-cast-result
+cast-result : tie.Need-overflow_cast-result
 cast-result c =
-    let read = c.before in
-    let few = (facts σ _ read.before.before.requires).most in
-    omega (arith, c.data_blocks_is.ensures, data_blocks_small σ read.groups.result (omega (arith, read.groups.ensures, few)))
+    let few = (facts σ _ c.requires).most in
+    omega (arith, c.data_blocks.ensures, data_blocks_small σ c.groups.result (omega (arith, c.groups.ensures, few)))
 
 returns : tie.Need-returns
-returns c = c.data_blocks_is.ensures ∙ ap (data_blocks present) c.before.groups.ensures
+returns c = c.data_blocks.ensures ∙ ap (data_blocks present) c.groups.ensures
 
-pub end-of-spec : {M : Type 1} → statement M
-end-of-spec = tie.close (tie.spec groups-requires (λ c κs. search rules) cast-result returns)
+pub end_of_spec : {M : Type 1} → statement M
+end_of_spec = tie.close (tie.spec groups-requires (λ c κs. search rules) cast-result returns)

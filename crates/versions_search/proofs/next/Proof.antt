@@ -7,32 +7,24 @@ use Rattle.versions_search.proofs.RoundLaw.{next_first, next_second, next_none}
 use Rattle.versions_search.proofs.next.Statement.{statement}
 use Rattle.versions_search.proofs.next.Tie as tie
 
-returns : tie.Need-returns
+returns : tie.Need-returns-then-first-end
 returns c =
-    let first = c.before in
-    let began = first.before in
-    next_first present _ _ _ _ _ _ began.before.end_of_lem.ensures began.behind.ensures _
-    (hit _ _ _ _ began.behind.ensures.within first.next-in.ensures c.if1.true)
+    next_first present _ _ _ _ _ _ c.end_of-end.ensures c.behind-start.ensures _
+    (hit _ _ _ _ c.behind-start.ensures.within c.next_in-first.ensures c.if-first-end.true)
 
-returns-2 : tie.Need-returns-2
+returns-2 : tie.Need-returns-then-second-start
 returns-2 c =
-    let second = c.before in
-    let first = second.before.before in
-    let began = first.before in
-    next_second present _ _ _ _ _ _ began.before.end_of_lem.ensures began.behind.ensures _
-    (miss _ _ _ _ began.behind.ensures.within first.next-in.ensures (omega arith))
-    (hit _ _ _ _ (omega arith) second.next-in2.ensures c.if2.true)
+    next_second present _ _ _ _ _ _ c.end_of-end.ensures c.behind-start.ensures _
+    (miss _ _ _ _ c.behind-start.ensures.within c.next_in-first.ensures (omega arith))
+    (hit _ _ _ _ (omega arith) c.next_in-second.ensures c.if-second-start.true)
 
-returns-3 : tie.Need-returns-3
+returns-3 : tie.Need-returns-else-second-start
 returns-3 c =
-    let second = c.before in
-    let first = second.before.before in
-    let began = first.before in
-    next_none present _ _ _ _ _ _ began.before.end_of_lem.ensures began.behind.ensures
-    (miss _ _ _ _ began.behind.ensures.within first.next-in.ensures (omega arith))
-    (miss _ _ _ _ (omega arith) second.next-in2.ensures (omega arith))
+    next_none present _ _ _ _ _ _ c.end_of-end.ensures c.behind-start.ensures
+    (miss _ _ _ _ c.behind-start.ensures.within c.next_in-first.ensures (omega arith))
+    (miss _ _ _ _ (omega arith) c.next_in-second.ensures (omega arith))
 
-pub next-spec : {M : Type 1} → statement M
-next-spec =
+pub next_spec : {M : Type 1} → statement M
+next_spec =
     tie.close
     (tie.spec (λ c κs. search rules) (λ c κs. search rules) (λ c κs. search rules) returns (λ c κs. search rules) returns-2 returns-3)

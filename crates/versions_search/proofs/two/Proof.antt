@@ -8,56 +8,44 @@ use Rattle.versions_search.proofs.RoundLaw.{next_first, next_second, next_none, 
 use Rattle.versions_search.proofs.two.Statement.{statement}
 use Rattle.versions_search.proofs.two.Tie as tie
 
-returns : tie.Need-returns
+returns : tie.Need-returns-then-next_in-end
 returns c =
-    let another = c.before in
-    let first = another.before.before in
-    let began = first.before in
-    let end = began.before.end_of_lem.ensures in
-    let start = began.behind.ensures in
-    let one = hit _ _ _ _ start.within first.next-in.ensures another.before.if1.true in (
+    let end = c.end_of-end.ensures in
+    let start = c.behind-start.ensures in
+    let one = hit _ _ _ _ start.within c.next_in-later.ensures c.if-later-end.true in (
       next_first present _ _ _ _ _ _ end start _ one,
-      two_first present _ _ _ _ _ _ end start _ _ one c.if2.true (hit _ _ _ _ (omega arith) another.next-in2.ensures c.if2.true),
+      two_first present _ _ _ _ _ _ end start _ _ one c.if-next_in-end.true (hit _ _ _ _ (omega arith) c.next_in.ensures c.if-next_in-end.true),
     )
 
-returns-2 : tie.Need-returns-2
+returns-2 : tie.Need-returns-else-next_in-end
 returns-2 c =
-    let another = c.before.before in
-    let first = another.before.before in
-    let began = first.before in
-    let end = began.before.end_of_lem.ensures in
-    let start = began.behind.ensures in
-    let one = hit _ _ _ _ start.within first.next-in.ensures another.before.if1.true in (
+    let end = c.end_of-end.ensures in
+    let start = c.behind-start.ensures in
+    let one = hit _ _ _ _ start.within c.next_in-later.ensures c.if-later-end.true in (
       next_first present _ _ _ _ _ _ end start _ one,
-      two_apart present _ _ _ _ _ _ end start _ _ one (miss _ _ _ _ (omega arith) another.next-in2.ensures (omega arith)) c.next-in3.ensures,
+      two_apart present _ _ _ _ _ _ end start _ _ one (miss _ _ _ _ (omega arith) c.next_in.ensures (omega arith)) c.next_in-else-next_in-end.ensures,
     )
 
-returns-3 : tie.Need-returns-3
+returns-3 : tie.Need-returns-then-earlier-start
 returns-3 c =
-    let second = c.before.before in
-    let first = second.before.before in
-    let began = first.before in
-    let end = began.before.end_of_lem.ensures in
-    let start = began.behind.ensures in
-    let none = miss _ _ _ _ start.within first.next-in.ensures (omega arith) in
-    let one = hit _ _ _ _ (omega arith) second.next-in4.ensures c.before.if3.true in (
+    let end = c.end_of-end.ensures in
+    let start = c.behind-start.ensures in
+    let none = miss _ _ _ _ start.within c.next_in-later.ensures (omega arith) in
+    let one = hit _ _ _ _ (omega arith) c.next_in-earlier.ensures c.if-earlier-start.true in (
       next_second present _ _ _ _ _ _ end start _ none one,
-      two_second present _ _ _ _ _ _ end start _ _ none one c.before.if3.true c.next-in5.ensures,
+      two_second present _ _ _ _ _ _ end start _ _ none one c.if-earlier-start.true c.next_in-then-earlier-start.ensures,
     )
 
-returns-4 : tie.Need-returns-4
+returns-4 : tie.Need-returns
 returns-4 c =
-    let second = c.before in
-    let first = second.before.before in
-    let began = first.before in
-    let end = began.before.end_of_lem.ensures in
-    let start = began.behind.ensures in
-    let none = miss _ _ _ _ start.within first.next-in.ensures (omega arith) in
-    let none-either = miss _ _ _ _ (omega arith) second.next-in4.ensures (omega arith) in
+    let end = c.end_of-end.ensures in
+    let start = c.behind-start.ensures in
+    let none = miss _ _ _ _ start.within c.next_in-later.ensures (omega arith) in
+    let none-either = miss _ _ _ _ (omega arith) c.next_in-earlier.ensures (omega arith) in
     (next_none present _ _ _ _ _ _ end start none none-either, two_none present _ _ _ _ _ _ end start none none-either)
 
-pub two-spec : {M : Type 1} → statement M
-two-spec =
+pub two_spec : {M : Type 1} → statement M
+two_spec =
     tie.close
     (tie.spec (λ c κs. search rules) (λ c κs. search rules) (λ c κs. search rules) (λ c. search rules) (λ c κs. search rules)
     (λ c κs. search rules) returns returns-2 (λ c κs. search rules) (λ c. search rules) (λ c κs. search rules) returns-3 returns-4)

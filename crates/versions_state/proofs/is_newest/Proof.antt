@@ -4,12 +4,12 @@ use Rattle.versions_state.proofs.CheckLaw.{none_is_newest, other_is_newest}
 use Rattle.versions_state.proofs.is_newest.Statement.{statement}
 use Rattle.versions_state.proofs.is_newest.Tie as tie
 
-returns : tie.Need-returns
-returns c = none_is_newest _ c.if1.true
+returns : tie.Need-returns-then-n-eq-NO_BLOCK
+returns c = none_is_newest _ c.if-n-eq-NO_BLOCK.true
 
-returns-2 : tie.Need-returns-2
+returns-2 : tie.Need-returns
 unfolding data_blocks
-returns-2 c = other_is_newest _ c.if1.false
+returns-2 c = other_is_newest _ c.if-n-eq-NO_BLOCK.false
 
-pub is-newest-spec : {M : Type 1} → statement M
-is-newest-spec = tie.close (tie.spec returns returns-2)
+pub is_newest_spec : {M : Type 1} → statement M
+is_newest_spec = tie.close (tie.spec returns returns-2)

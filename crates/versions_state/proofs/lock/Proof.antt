@@ -8,5 +8,5 @@ returns : tie.Need-returns
 unfolding versions_in
 returns c = search rules
 
-pub lock-spec : {M : Type 1} → statement M
-lock-spec = tie.close (tie.spec (λ c κs. search rules) returns)
+pub lock_spec : {M : Type 1} → statement M
+lock_spec = tie.close (tie.spec (λ c κs. search rules) returns)

@@ -8,5 +8,5 @@ returns : tie.Need-returns
 unfolding record_count
 returns c = search rules
 
-pub record-count-spec : {M : Type 1} → statement M
-record-count-spec = tie.close (tie.spec (λ c κs. search rules) returns)
+pub record_count_spec : {M : Type 1} → statement M
+record_count_spec = tie.close (tie.spec (λ c κs. search rules) returns)

@@ -8,5 +8,5 @@ returns : tie.Need-returns
 unfolding versions_in
 returns c = search rules
 
-pub taken-spec : {M : Type 1} → statement M
-taken-spec = tie.close (tie.spec (λ c κs. search rules) returns)
+pub taken_spec : {M : Type 1} → statement M
+taken_spec = tie.close (tie.spec (λ c κs. search rules) returns)

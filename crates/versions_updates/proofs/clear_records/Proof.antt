@@ -7,14 +7,10 @@ use Rattle.versions_updates.proofs.clear_records.Tie as tie
 
 returns : tie.Need-returns
 returns c ν es few =
-    let last = c.before.before in
-    let third = last.before.before.before.before in
-    let second = third.before.before.before.before in
-    let first = second.before.before.before.before in
-    cleared_stored present ν _ _ _ _ _ _ first.store-u32.ensures second.store-u322.ensures third.store-u323.ensures
-    last.fill.ensures es few
+    cleared_stored present ν _ _ _ _ _ _ c.store_u32.ensures c.store_u32-2.ensures c.store_u32-3.ensures
+    c.fill.ensures es few
 
-pub clear-records-spec : {M : Type 1} → statement M
-clear-records-spec =
+pub clear_records_spec : {M : Type 1} → statement M
+clear_records_spec =
     tie.close
     (tie.spec (λ c κs. search rules) (λ c κs. search rules) (λ c κs. search rules) (λ c κs. search rules) (λ c. search rules) returns)

@@ -14,42 +14,42 @@ use Rattle.versions_updates.proofs.enter.Statement.{statement}
 use Rattle.versions_updates.proofs.enter.Tie as tie
 
 -- the way back from each store to the one before it
-abbrev first : tie.After-store-u32-arg → tie.After-set-newest-arg
+abbrev first : tie.After-store_u32-arg-1 → tie.After-set_newest-arg-1
 first c = c.before.before.before.before
 
-abbrev second : tie.After-store-u32-arg2 → tie.After-store-u32-arg
+abbrev second : tie.After-store_u32-arg-2-1 → tie.After-store_u32-arg-1
 second c = c.before.before.before.before
 
-abbrev third : tie.After-store-u32-arg3 → tie.After-store-u32-arg2
+abbrev third : tie.After-store_u32-arg-3-1 → tie.After-store_u32-arg-2-1
 third c = c.before.before.before.before
 
-abbrev counted : tie.After-record-start → tie.After-record-count
+abbrev counted : tie.After-record_start-at → tie.After-record_count-n
 counted c = c.before
 
-abbrev start : tie.After-record-start → tie.Start
-start c = (counted c).before.before.before
+abbrev start : tie.After-record_start-at → tie.Start
+start c = (counted c).before.before
 
 size : (c : tie.Start) → length c.args.state.now ≡ state_size present
 size c = (facts present _ c.requires.valid).size
 
 -- the next record has its place
-room : (c : tie.After-record-start) → c.record-start.result + record_size ≤ state_size present
-room c = omega (arith, c.record-start.ensures, (counted c).record-count.ensures, (start c).requires.more)
+room : (c : tie.After-record_start-at) → c.record_start-at.result + record_size ≤ state_size present
+room c = omega (arith, c.record_start-at.ensures, c.record_count-n.ensures, c.requires.more)
 
-store-u32-requires : tie.Need-store-u32-requires
+store-u32-requires : tie.Need-store_u32-requires
 store-u32-requires c κs = omega (arith, size (start (first c).before))
 
-store-u32-requires-2 : tie.Need-store-u32-requires-2
+store-u32-requires-2 : tie.Need-store_u32-requires-2
 store-u32-requires-2 c κs =
     let placed = (first (second c)).before in
     omega (arith, size (start placed), room placed)
 
-store-u32-requires-3 : tie.Need-store-u32-requires-3
+store-u32-requires-3 : tie.Need-store_u32-requires-3
 store-u32-requires-3 c κs =
     let placed = (first (second (third c))).before in
     omega (arith, size (start placed), room placed)
 
-store-u32-requires-4 : tie.Need-store-u32-requires-4
+store-u32-requires-4 : tie.Need-store_u32-requires-4
 store-u32-requires-4 c κs =
     let placed = (first (second (third c.before.before.before.before))).before in
     omega (arith, size (start placed))
@@ -57,21 +57,13 @@ store-u32-requires-4 c κs =
 returns : tie.Need-returns
 unfolding Below
 returns c =
-    let fifth = c.before.before in
-    let fourth = fifth.before.before.before.before in
-    let stored = fourth.before.before.before.before in
-    let took = stored.before.before.before.before in
-    let set = took.before.before.before.before in
-    let placed = set.before.before in
-    let known = (counted placed).before.before in
-    let pre = (start placed).requires in
-    enter_stored present _ _ _ _ _ _ _ _ _ _ (λ i. omega (arith, known.slice-known.given i)) pre.valid pre.is_part pre.more
-    (counted placed).record-count.ensures placed.record-start.ensures set.set-newest.ensures took.store-u32.ensures
-    stored.store-u322.ensures fourth.store-u323.ensures fifth.store-u324.ensures
+    enter_stored present _ _ _ _ _ _ _ _ _ _ (λ i. omega (arith, c.slice_known-1.given i)) c.requires.valid c.requires.is_part c.requires.more
+    c.record_count-n.ensures c.record_start-at.ensures c.set_newest.ensures c.store_u32.ensures
+    c.store_u32-2.ensures c.store_u32-3.ensures c.store_u32-4.ensures
 
 pub enter_spec : {M : Type 1} → statement M
 enter_spec =
     tie.close
-    (tie.spec (λ c κs. size c.before.before) (λ c κs. search rules)
+    (tie.spec (λ c κs. size c.before) (λ c κs. search rules)
     (λ c κs. (size (start c.before), (start c.before).requires.is_part)) store-u32-requires store-u32-requires-2 (λ c. search rules)
     store-u32-requires-3 (λ c. search rules) store-u32-requires-4 (λ c. search rules) returns)

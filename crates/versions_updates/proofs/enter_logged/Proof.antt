@@ -15,23 +15,20 @@ use Rattle.versions_updates.proofs.enter_logged.Tie as tie
 size : (c : tie.Start) → length c.args.state.now ≡ state_size present
 size c = (facts present _ c.requires.0).size
 
-set-newest-requires : tie.Need-set-newest-requires
-set-newest-requires c κs = (size c.before.before, c.before.before.requires.1)
+set-newest-requires : tie.Need-set_newest-requires
+set-newest-requires c κs = (size c.before.before, c.requires.1)
 
-clear-records-requires : tie.Need-clear-records-requires
+clear-records-requires : tie.Need-clear_records-requires
 clear-records-requires c κs = omega (arith, size c.before.before.before.before.before.before)
 
 returns : tie.Need-returns
 unfolding Below entered logged
 returns c =
-    let cleared = c.before.before in
-    let set = cleared.before.before.before.before in
-    let known = set.before.before in
-    let pre = known.before.requires in
-    let are : AreBytes known.before.args.state.now = λ i. omega (arith, known.slice-known.given i) in
-    cleared.clear-records.ensures _
-    (newest_stored present _ _ _ _ _ pre.1 (read_back present _ are pre.0) set.set-newest.ensures)
+    let pre = c.requires in
+    let are : AreBytes c.args.state.now = λ i. omega (arith, c.slice_known-1.given i) in
+    c.clear_records.ensures _
+    (newest_stored present _ _ _ _ _ pre.1 (read_back present _ are pre.0) c.set_newest.ensures)
     (few_read present _ are pre.0)
 
-pub enter-logged-spec : {M : Type 1} → statement M
-enter-logged-spec = tie.close (tie.spec set-newest-requires clear-records-requires (λ c. search rules) returns)
+pub enter_logged_spec : {M : Type 1} → statement M
+enter_logged_spec = tie.close (tie.spec set-newest-requires clear-records-requires (λ c. search rules) returns)

@@ -7,17 +7,15 @@ use Rattle.versions_state.proofs.ValidLaw.{facts, read_back, few_read}
 use Rattle.versions_updates.proofs.log.Statement.{statement}
 use Rattle.versions_updates.proofs.log.Tie as tie
 
-clear-records-requires : tie.Need-clear-records-requires
-clear-records-requires c κs = (facts present _ c.before.before.requires).size
+clear-records-requires : tie.Need-clear_records-requires
+clear-records-requires c κs = (facts present _ c.requires).size
 
 returns : tie.Need-returns
 unfolding Below
 returns c =
-    let cleared = c.before.before in
-    let known = cleared.before.before in
-    let valid = known.before.requires in
-    cleared.clear-records.ensures _ (read_back present _ (λ i. omega (arith, known.slice-known.given i)) valid)
-    (few_read present _ (λ i. omega (arith, known.slice-known.given i)) valid)
+    let valid = c.requires in
+    c.clear_records.ensures _ (read_back present _ (λ i. omega (arith, c.slice_known-1.given i)) valid)
+    (few_read present _ (λ i. omega (arith, c.slice_known-1.given i)) valid)
 
-pub log-spec : {M : Type 1} → statement M
-log-spec = tie.close (tie.spec clear-records-requires (λ c. search rules) returns)
+pub log_spec : {M : Type 1} → statement M
+log_spec = tie.close (tie.spec clear-records-requires (λ c. search rules) returns)

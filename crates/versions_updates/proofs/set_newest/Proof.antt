@@ -6,8 +6,7 @@ use Rattle.versions_updates.proofs.set_newest.Tie as tie
 
 returns : tie.Need-returns
 returns c =
-    let stored = c.before.before in
-    stored_at _ _ _ _ _ _ stored.before.newest-start.ensures stored.store-u32.ensures
+    stored_at _ _ _ _ _ _ c.newest_start.ensures c.store_u32.ensures
 
-pub set-newest-spec : {M : Type 1} → statement M
-set-newest-spec = tie.close (tie.spec (λ c κs. search rules) (λ c κs. search rules) (λ c. search rules) returns)
+pub set_newest_spec : {M : Type 1} → statement M
+set_newest_spec = tie.close (tie.spec (λ c κs. search rules) (λ c κs. search rules) (λ c. search rules) returns)

@@ -7,14 +7,8 @@ use Rattle.versions_updates.proofs.start.Tie as tie
 
 returns : tie.Need-returns
 returns c =
-    let last = c.before.before in
-    let fourth = last.before.before.before.before in
-    let third = fourth.before.before.before.before in
-    let second = third.before.before.before.before in
-    let first = second.before.before.before.before in
-    let start = first.before.before.before in
-    start_stored present _ _ _ _ _ _ _ start.requires first.store-u32.ensures second.store-u322.ensures third.store-u323.ensures
-    fourth.store-u324.ensures last.fill.ensures
+    start_stored present _ _ _ _ _ _ _ c.requires c.store_u32.ensures c.store_u32-2.ensures c.store_u32-3.ensures
+    c.store_u32-4.ensures c.fill.ensures
 
 pub start_spec : {M : Type 1} → statement M
 start_spec =

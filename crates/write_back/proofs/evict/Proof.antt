@@ -17,4 +17,4 @@ other c =
 pub evict_spec : {M : Type 1} → statement M
 evict_spec =
     tie.close
-    (tie.spec (λ c κs. (facts σ _ c.before.before.requires.memory).size) same (λ c κs. search rules) (λ c. search rules) other)
+    (tie.spec (λ c κs. (facts σ _ c.requires.memory).size) same (λ c κs. search rules) (λ c. search rules) other)

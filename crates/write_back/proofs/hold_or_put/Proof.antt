@@ -1,8 +1,6 @@
 -- `write_back::hold_or_put` meets its contract: the count stored, the page held or stored as its group's. Assumes nothing.
 use borrow.Author.Rules.{rules}
-use mathlib.Core.Path.{◌≡◌, ◌∙◌}
 use native.Mathlib.Omega.{arith}
-use Prim.Native.Nat.{◌<◌}
 use Rattle.lockpage.specs.Geometry.{present}
 use Rattle.lockpage.proofs.GeometryLaw.{present_proper as σ}
 use Rattle.disk.proofs.DiskLaw.{has_group}
@@ -17,10 +15,10 @@ abbrev counted : tie.After-set_count → tie.After-count-count
 counted c = c.before.before
 
 abbrev numbered : tie.After-count-count → tie.After-next_update-updates
-numbered c = c.before.before
+numbered c = c.before
 
 abbrev start : tie.After-next_update-updates → tie.Start
-start c = c.before.before.before.before.before
+start c = c.before.before.before.before
 
 -- the memory at entry has the group
 has : (c : tie.Start) → HasCount present c.args.memory.now c.args.group
@@ -30,38 +28,29 @@ has c =
 
 hold-requires : tie.Need-hold-requires
 hold-requires c κs =
-    let set = c.before in
-    let first = start (numbered (counted set)) in
-    let size = (has first).size in
-    (record { count = record { size = search rules; group = (has first).group }; page_size_is = first.requires.page_size_is }, omega (arith, c.if-updates-le-MOST_UPDATES.true))
+    let size = (has c.before.before.before.before.before.before.before.before.before.before.before).size in
+    (record { count = record { size = search rules; group = (has c.before.before.before.before.before.before.before.before.before.before.before).group }; page_size_is = c.requires.page_size_is }, omega (arith, c.if-updates-le-MOST_UPDATES.true))
 
 store-page-requires : tie.Need-store_page-requires
 store-page-requires c κs =
-    let set = c.before in
-    let first = start (numbered (counted set)) in
-    (has_group σ _ _ _ first.requires.box.disk first.requires.group, first.requires.page_size_is)
+    (has_group σ _ _ _ c.requires.box.disk c.requires.group, c.requires.page_size_is)
 
 hold-none-requires : tie.Need-hold_none-requires
 hold-none-requires c κs =
-    let set = c.before in
-    let size = (has (start (numbered (counted set)))).size in
+    let size = (has c.before.before.before.before.before.before.before.before.before.before.before.before.before.before.before).size in
     search rules
 
 held : tie.Need-returns-then-updates-le-MOST_UPDATES
 held c =
-    let set = c.before in
-    let read = counted set in
-    let next = (numbered read).next_update-updates.ensures in (
-      staying_held σ _ _ _ next (omega (arith, c.if-updates-le-MOST_UPDATES.true)) _ _ _ _ read.count-count.ensures c.set_count.ensures c.hold.ensures,
+    let next = c.next_update-updates.ensures in (
+      staying_held σ _ _ _ next (omega (arith, c.if-updates-le-MOST_UPDATES.true)) _ _ _ _ c.count-count.ensures c.set_count.ensures c.hold.ensures,
       staying_put σ _ _ _ next (omega (arith, c.if-updates-le-MOST_UPDATES.true)) _ _,
     )
 
 left : tie.Need-returns
 left c =
-    let set = c.before in
-    let read = counted set in
-    let next = (numbered read).next_update-updates.ensures in (
-      leaving_held σ _ _ _ next (omega (arith, c.if-updates-le-MOST_UPDATES.false)) _ _ _ _ read.count-count.ensures c.set_count.ensures
+    let next = c.next_update-updates.ensures in (
+      leaving_held σ _ _ _ next (omega (arith, c.if-updates-le-MOST_UPDATES.false)) _ _ _ _ c.count-count.ensures c.set_count.ensures
           c.hold_none.ensures,
       leaving_put σ _ _ _ next (omega (arith, c.if-updates-le-MOST_UPDATES.false)) _ _ _ c.store_page.ensures,
     )
@@ -69,7 +58,7 @@ left c =
 pub hold_or_put_spec : {M : Type 1} → statement M
 hold_or_put_spec =
     tie.close
-    (tie.spec (λ c κs. c.before.before.before.before.requires.box.memory) (λ c κs. has (start c.before))
-    (λ c. omega (arith, c.before.count-count.ensures, (start (numbered c.before)).requires.unexhausted))
-    (λ c κs. has (start (numbered c.before))) hold-requires (λ c. search rules) held store-page-requires hold-none-requires
+    (tie.spec (λ c κs. c.requires.box.memory) (λ c κs. has c.before.before.before.before)
+    (λ c. omega (arith, c.count-count.ensures, c.requires.unexhausted))
+    (λ c κs. has c.before.before.before.before.before.before) hold-requires (λ c. search rules) held store-page-requires hold-none-requires
     (λ c. search rules) (λ c. search rules) left)

@@ -18,12 +18,12 @@ abbrev counted : tie.After-hold_none → tie.After-count-count
 counted c = c.before.before
 
 abbrev tested : tie.After-count-count → tie.Else-lost
-tested c = c.before.before
+tested c = c.before
 
 abbrev start : tie.Else-lost → tie.Start
-start c = c.before.before.before.before
+start c = c.before.before.before
 
-few : (c : tie.Else-lost) → c.held-lost.result < present.most_groups
+few : (c : tie.Else-lost) → c.before.held-lost.result < present.most_groups
 few c = held_few σ _ _ c.held-lost.ensures (facts σ _ c.requires) c.if-lost.false
 
 within : (c : tie.After-count-count) → c.count-count.result ≤ count_limit
@@ -32,22 +32,18 @@ within c =
 
 set-requires : tie.Need-set_count-requires
 set-requires c κs =
-    let some = tested c in
-    let size = (facts σ _ (start some).requires).size in
-    record { size = search rules; group = few some }
+    let size = (facts σ _ c.requires).size in
+    record { size = search rules; group = few c.before.before.before.before.before.before }
 
 some : tie.Need-returns
 some c =
-    let dropped = c.before in
-    let read = counted dropped in
-    let held = tested read in
-    held_lost σ _ _ held.before.held-lost.ensures (facts σ _ (start held).requires) held.if-lost.false _ read.count-count.ensures _ _
+    held_lost σ _ _ c.held-lost.ensures (facts σ _ c.requires) c.if-lost.false _ c.count-count.ensures _ _
     c.hold_none.ensures c.set_count.ensures
 
 pub lose_held_spec : {M : Type 1} → statement M
 lose_held_spec =
     tie.close
-    (tie.spec (λ c κs. (facts σ _ c.before.before.requires).size) (λ c. search rules) (λ c. search rules) none
-    (λ c κs. record { size = (facts σ _ (start c.before).requires).size; group = few c.before })
-    (λ c κs. (facts σ _ (start (tested c.before)).requires).size)
-    (λ c. omega (arith, within (counted c.before.before.before))) set-requires (λ c. search rules) some)
+    (tie.spec (λ c κs. (facts σ _ c.requires).size) (λ c. search rules) (λ c. search rules) none
+    (λ c κs. record { size = (facts σ _ c.requires).size; group = few c })
+    (λ c κs. (facts σ _ c.requires).size)
+    (λ c. omega (arith, within c.before.before.before.before.before)) set-requires (λ c. search rules) some)

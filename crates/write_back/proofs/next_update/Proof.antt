@@ -1,5 +1,4 @@
 -- `write_back::next_update` meets its contract, with the group held and not. Assumes nothing.
-use borrow.Author.Rules.{rules}
 use mathlib.Core.Path.{ap, sym, ◌∙◌}
 use native.Mathlib.Omega.{arith}
 use Prim.Native.Nat.{ℕ, ◌+◌}
@@ -22,4 +21,4 @@ same c =
 pub next_update_spec : {M : Type 1} → statement M
 next_update_spec =
     tie.close
-    (tie.spec (λ c κs. (facts σ _ c.before.requires).size) new (λ c κs. (facts σ _ c.before.before.before.requires).size) add-result same)
+    (tie.spec (λ c κs. (facts σ _ c.requires).size) new (λ c κs. (facts σ _ c.requires).size) add-result same)

@@ -14,7 +14,7 @@ start c = c.before.before.before.before
 abbrev tested : tie.After-copy_page → tie.Else-held
 tested c = c.before.before
 
-valid : (c : tie.Else-held) → Valid present c.args.memory.now
+valid : (c : tie.Else-held) → Valid present (start c).args.memory.now
 valid c = facts σ _ c.requires.memory
 
 none : tie.Need-returns-then-held
@@ -27,22 +27,18 @@ copy-page-requires c κs =
 
 store-page-requires : tie.Need-store_page-requires
 store-page-requires c κs =
-    let copied = c.before in
-    let some = tested copied in
-    let disk = (start some).args.disk.now in (
-      held_has σ _ _ some.before.held-held.ensures (valid some) some.if-held.false disk _ (start some).requires.disk c.copy_page.ensures,
-      held_size σ _ _ some.before.held-held.ensures (valid some) some.if-held.false disk _ (start some).requires.disk c.copy_page.ensures,
+    let disk = c.args.disk.now in (
+      held_has σ _ _ c.held-held.ensures (valid c.before.before.before.before.before) c.if-held.false disk _ c.requires.disk c.copy_page.ensures,
+      held_size σ _ _ c.held-held.ensures (valid c.before.before.before.before.before) c.if-held.false disk _ c.requires.disk c.copy_page.ensures,
     )
 
 some : tie.Need-returns
 some c =
-    let copied = c.before in
-    let held = tested copied in
-    held_put σ _ _ held.before.held-held.ensures (valid held) held.if-held.false _ _ (start held).requires.disk c.copy_page.ensures _
+    held_put σ _ _ c.held-held.ensures (valid c.before.before.before.before.before.before.before.before) c.if-held.false _ _ c.requires.disk c.copy_page.ensures _
     c.store_page.ensures
 
 pub put_held_spec : {M : Type 1} → statement M
 put_held_spec =
     tie.close
-    (tie.spec (λ c κs. (facts σ _ c.before.before.requires.memory).size) (λ c. search rules) none (λ c. search rules) copy-page-requires
+    (tie.spec (λ c κs. (facts σ _ c.requires.memory).size) (λ c. search rules) none (λ c. search rules) copy-page-requires
     (λ c. search rules) store-page-requires (λ c. search rules) some)

@@ -7,17 +7,11 @@ use Rattle.answers.proofs.shows.answer_entry.Tie as tie
 
 returns : tie.Need-returns
 returns c =
-    let third = c.before.before in
-    let number = third.before in
-    let second = number.before.before.before.before.before in
-    let first = second.before.before.before.before in
-    let zeroed = first.before.before.before.before in
-    let start = zeroed.before.before.before in
-    entry_answered σ _ _ _ _ _ _ _ _ _ start.requires zeroed.zero-tail.ensures first.store_entry.ensures
-    second.store-time-left.ensures number.before.state.ensures number.state-number.ensures third.store-u8.ensures
+    entry_answered σ _ _ _ _ _ _ _ _ _ c.requires c.zero_tail.ensures c.store_entry.ensures
+    c.store_time_left.ensures c.state.ensures c.state_number.ensures c.store_u8.ensures
 
-pub answer-entry-spec : {M : Type 1} → statement M
-answer-entry-spec =
+pub answer_entry_spec : {M : Type 1} → statement M
+answer_entry_spec =
     tie.close
     (tie.spec (λ c κs. search rules) (λ c κs. search rules) (λ c κs. search rules) (λ c. search rules) (λ c κs. search rules)
     (λ c κs. search rules) (λ c κs. search rules) (λ c. search rules) returns)

@@ -9,27 +9,19 @@ use Rattle.answers.proofs.shows.read.Statement.{statement}
 use Rattle.answers.proofs.shows.read.Tie as tie
 
 -- where it starts, before the last time is set
-abbrev start : tie.After-set-last-time-arg → tie.Start
-start c = c.before.before.before.before
-
-read-block-requires : tie.Need-read-block-requires
+read-block-requires : tie.Need-read_block-requires
 read-block-requires c κs =
-    let timed = c.before.before.before in
-    let ready = (start timed.before).requires in
+    let ready = c.requires in
     (has_group_of σ _ _ _ ready.box.disk ready.block, refl)
 
 returns : tie.Need-returns
 returns c =
-    let zeroed = c.before.before in
-    let copied = zeroed.before.before.before.before in
-    let read = copied.before.before.before.before in
-    let timed = read.before.before.before.before in
-    let ready = (start timed.before).requires in
-    read_outcome σ _ _ _ _ timed.set-last-time.ensures (start timed.before).args.answer.now _ _ _ _ ready.box.disk
-    ready.block ready.answer_size_is read.read-block.ensures copied.copy.ensures zeroed.zero-tail.ensures
+    let ready = c.requires in
+    read_outcome σ _ _ _ _ c.set_last_time.ensures c.args.answer.now _ _ _ _ ready.box.disk
+    ready.block ready.answer_size_is c.read_block.ensures c.copy.ensures c.zero_tail.ensures
 
 pub read_spec : {M : Type 1} → statement M
 read_spec =
     tie.close
-    (tie.spec (λ c κs. (facts σ _ (start c).requires.box.memory).size) (λ c. search rules) read-block-requires (λ c. search rules)
+    (tie.spec (λ c κs. (facts σ _ c.requires.box.memory).size) (λ c. search rules) read-block-requires (λ c. search rules)
     (λ c κs. search rules) (λ c κs. search rules) (λ c. search rules) (λ c. search rules) returns)

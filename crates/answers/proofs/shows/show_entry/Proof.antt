@@ -9,24 +9,17 @@ use Rattle.answers.proofs.shows.show_entry.Statement.{statement}
 use Rattle.answers.proofs.shows.show_entry.Tie as tie
 
 -- where it starts, before the last time is set
-abbrev start : tie.After-set-last-time-arg → tie.Start
-start c = c.before.before.before.before
-
-entry-requires : tie.Need-entry-requires
+entry-requires : tie.Need-entry-e-requires
 entry-requires c κs =
-    let kept = c.before.before in
-    let ready = (start kept.before.before).requires in
-    (kept.memory.given ∙ (facts σ _ ready.box.memory).size, has_group_of σ _ _ _ ready.box.disk ready.block)
+    let ready = c.requires in
+    (c.memory-1.given ∙ (facts σ _ ready.box.memory).size, has_group_of σ _ _ _ ready.box.disk ready.block)
 
 returns : tie.Need-returns
 returns c =
-    let answered = c.before.before in
-    let loaded = answered.before.before in
-    let timed = loaded.before.before.before.before in
-    entry_outcome σ _ _ _ _ timed.set-last-time.ensures _ _ _ loaded.entry.ensures answered.answer-entry.ensures
+    entry_outcome σ _ _ _ _ c.set_last_time.ensures _ _ _ c.entry-e.ensures c.answer_entry.ensures
 
-pub show-entry-spec : {M : Type 1} → statement M
-show-entry-spec =
+pub show_entry_spec : {M : Type 1} → statement M
+show_entry_spec =
     tie.close
-    (tie.spec (λ c κs. (facts σ _ (start c).requires.box.memory).size) entry-requires (λ c κs. search rules)
+    (tie.spec (λ c κs. (facts σ _ c.requires.box.memory).size) entry-requires (λ c κs. search rules)
     (λ c. search rules) (λ c. search rules) returns)

@@ -10,43 +10,29 @@ use Rattle.answers.proofs.shows.show_page.Statement.{statement}
 use Rattle.answers.proofs.shows.show_page.Tie as tie
 
 -- the states on the way back: the page copied, the memory with its last time set, the start
-abbrev copied : tie.After-store-tag-arg2 → tie.After-fetch
-copied c = c.before.before.before.before
-
-abbrev kept : tie.After-fetch → tie.After-memory
-kept c = c.before.before.before.before
-
-abbrev start : tie.After-set-last-time-arg → tie.Start
-start c = c.before.before.before.before
-
 fetch-requires : tie.Need-fetch-requires
 fetch-requires c κs =
-    let memory = c.before.before.before in
-    let ready = (start memory.before.before).requires in
+    let ready = c.requires in
     record {
-      memory_size_is = memory.memory.given ∙ (facts σ _ ready.box.memory).size;
+      memory_size_is = c.memory-1.given ∙ (facts σ _ ready.box.memory).size;
       group = has_group σ _ _ _ ready.box.disk ready.group;
       page_size_is = search rules;
     }
 
-store-tag-requires : tie.Need-store-tag-requires
+store-tag-requires : tie.Need-store_tag-requires
 store-tag-requires c κs =
-    let memory = kept (copied c) in
-    let ready = (start memory.before.before).requires in
+    let ready = c.requires in
     let v = facts σ _ ready.box.memory in
-    (record { size = memory.memory.given ∙ v.size; group = omega (arith, v.most, ready.group) }, search rules)
+    (record { size = c.memory-1.given ∙ v.size; group = omega (arith, v.most, ready.group) }, search rules)
 
 returns : tie.Need-returns
 returns c =
-    let tagged = c.before.before in
-    let page = copied tagged.before in
-    let timed = (kept page).before in
-    let ready = (start timed.before).requires in
-    page_outcome σ _ _ _ _ timed.set-last-time.ensures (start timed.before).args.answer.now _ _ _ (facts σ _ ready.box.memory).size
-    (omega (arith, (start timed.before).ranges.time)) ready.box.disk ready.group page.fetch.ensures.1 tagged.store-tag.ensures
+    let ready = c.requires in
+    page_outcome σ _ _ _ _ c.set_last_time.ensures c.args.answer.now _ _ _ (facts σ _ ready.box.memory).size
+    (omega (arith, c.ranges.time)) ready.box.disk ready.group c.fetch.ensures.1 c.store_tag.ensures
 
-pub show-page-spec : {M : Type 1} → statement M
-show-page-spec =
+pub show_page_spec : {M : Type 1} → statement M
+show_page_spec =
     tie.close
-    (tie.spec (λ c κs. (facts σ _ (start c).requires.box.memory).size) (λ c. search rules) (λ c. search rules)
+    (tie.spec (λ c κs. (facts σ _ c.requires.box.memory).size) (λ c. search rules) (λ c. search rules)
     (λ c. search rules) fetch-requires store-tag-requires (λ c. search rules) (λ c. search rules) returns)

@@ -9,10 +9,8 @@ use Rattle.answers.proofs.tail.zero_tail.Tie as tie
 returns : tie.Need-returns
 unfolding repeated
 returns c =
-    let copied = c.before.before in
-    let start = copied.before.before.before.before in
-    zeros_copied σ _ _ _ start.requires.1 copied.copy.ensures
+    zeros_copied σ _ _ _ c.requires.1 c.copy.ensures
 
-pub zero-tail-spec : {M : Type 1} → statement M
-zero-tail-spec =
+pub zero_tail_spec : {M : Type 1} → statement M
+zero_tail_spec =
     tie.close (tie.spec (λ c. search rules) (λ c. search rules) (λ c κs. search rules) (λ c. search rules) returns)

@@ -1,7 +1,7 @@
 -- `arguments::box_questions::refusal` meets its contract: the first no, in order. Assumes nothing.
+use mathlib.Core.Bool.{not}
 use borrow.Author.Rules.{rules}
-use mathlib.Core.Path.{◌≡◌, refl, sym, ◌∙◌}
-use mathlib.Mathlib.Data.Bool.Basic.{eq-true_of_not-eq-false'}
+use mathlib.Core.Path.{ap, ◌≡◌, refl, sym, ◌∙◌}
 use mathlib.Core.List.{List, [], ◌∷◌}
 use Prim.Native.Nat.{ℕ}
 use lib.ListN.{length}
@@ -26,38 +26,38 @@ abbrev start : tie.After-valid → tie.Start
 start c = c.before.before.before
 
 left1 : (c : tie.Else-not-valid)
-    → let x = c.args in
+    → let x = (start c.before).args in
     first_no (second x.memory.now x.disk.now x.time) ≡ first_no (all x.memory.now x.disk.now x.time)
-left1 c = goes_on (question1 present _) _ _ c.valid.ensures c.if-not-valid.false
+left1 c = goes_on (question1 present _) _ _ c.valid.ensures (ap not c.if-not-valid.false)
 
 left2 : (c : tie.Else-not-disk_fits)
-    → let x = c.args in
+    → let x = (start c.before.before.before).args in
     first_no (question4 present x.memory.now x.time ∷ []) ≡ first_no (all x.memory.now x.disk.now x.time)
 left2 c =
     let x = c.args in
-    goes_on (question2 present x.memory.now x.disk.now) _ _ c.disk_fits.ensures c.if-not-disk_fits.false ∙ left1 c.before
+    goes_on (question2 present x.memory.now x.disk.now) _ _ c.disk_fits.ensures (ap not c.if-not-disk_fits.false) ∙ left1 c.before.before
 
-size : (c : tie.Else-not-valid) → length c.args.memory.now ≡ memory_size present
+size : (c : tie.Else-not-valid) → length (start c.before).args.memory.now ≡ memory_size present
 size c = (facts σ _ (sym c.valid.ensures ∙ c.if-not-valid.false)).size
 
 invalid : tie.Need-returns-then-not-valid
-invalid c = says_no 1 (question1 present _) _ _ refl c.valid.ensures c.if-not-valid.true
+invalid c = says_no 1 (question1 present _) _ _ refl c.valid.ensures (ap not c.if-not-valid.true)
 
 disk_size_is : tie.Need-returns-then-not-disk_fits
 disk_size_is c =
     let x = c.args in
-    says_no 2 (question2 present x.memory.now x.disk.now) _ _ refl c.disk_fits.ensures c.if-not-disk_fits.true ∙ left1 c.before
+    says_no 2 (question2 present x.memory.now x.disk.now) _ _ refl c.disk_fits.ensures (ap not c.if-not-disk_fits.true) ∙ left1 c.before.before
 
 time : tie.Need-returns-then-not-is_timely
 time c =
     let x = c.args in
-    says_no 4 (question4 present x.memory.now x.time) _ _ refl c.is_timely.ensures c.if-not-is_timely.true ∙ left2 c.before
+    says_no 4 (question4 present x.memory.now x.time) _ _ refl c.is_timely.ensures (ap not c.if-not-is_timely.true) ∙ left2 c.before.before
 
 none : tie.Need-returns
 unfolding first_no
 none c =
     let x = c.args in
-    goes_on (question4 present x.memory.now x.time) [] _ c.is_timely.ensures c.if-not-is_timely.false ∙ left2 c.before
+    goes_on (question4 present x.memory.now x.time) [] _ c.is_timely.ensures (ap not c.if-not-is_timely.false) ∙ left2 c.before.before
 
 pub refusal_spec : {M : Type 1} → statement M
 refusal_spec =

@@ -8,17 +8,14 @@ use Rattle.block_states.proofs.OutcomeLaw.{pages_are}
 use Rattle.block_states.proofs.fill.fill.Statement.{statement}
 use Rattle.block_states.proofs.fill.fill.Tie as tie
 
-link-requires : tie.Need-link-requires
+link-requires : tie.Need-link-groups-requires
 unfolding repeated
 link-requires c κs =
-    let start = c.before.before.before.before.before.before.before in
-    record { list = list_ready σ _ _ _ start.requires; heads = refl; nexts_size = refl; named_size = refl }
+    record { list = list_ready σ _ _ _ c.requires; heads = refl; nexts_size = refl; named_size = refl }
 
 returns : tie.Need-returns
 returns c =
-    let answered = c.before.before in
-    let linked = answered.before.before.before.before.before.before.before.before in
-    (answered.answer-groups.ensures.0 ∙ pages_are σ _ _ linked.link.ensures.each_once, answered.answer-groups.ensures.1)
+    (c.answer_groups.ensures.0 ∙ pages_are σ _ _ c.link-groups.ensures.each_once, c.answer_groups.ensures.1)
 
 pub fill_spec : {M : Type 1} → statement M
 fill_spec =

@@ -6,15 +6,11 @@ use Rattle.block_states.proofs.fill.store_shown.Tie as tie
 
 returns : tie.Need-returns
 returns c =
-    let timed = c.before.before in
-    let stored = timed.before.before.before.before in
-    let numbered = stored.before in
-    let start = numbered.before.before.before.before in
-    shown_stored _ _ _ _ _ _ _ _ start.requires numbered.before.state.ensures numbered.state-number.ensures stored.store-u8.ensures
-    timed.store-time-left.ensures
+    shown_stored _ _ _ _ _ _ _ _ c.requires c.state.ensures c.state_number.ensures c.store_u8.ensures
+    c.store_time_left.ensures
 
-pub store-shown-spec : {M : Type 1} → statement M
-store-shown-spec =
+pub store_shown_spec : {M : Type 1} → statement M
+store_shown_spec =
     tie.close
     (tie.spec (λ c. search rules) (λ c κs. search rules) (λ c κs. search rules) (λ c κs. search rules) (λ c. search rules) (λ c κs. search rules)
     (λ c. search rules) returns)

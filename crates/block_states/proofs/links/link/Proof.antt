@@ -2,7 +2,6 @@
 use borrow.Author.Rules.{rules}
 use native.Mathlib.Omega.{arith}
 use mathlib.Core.Path.{◌≡◌, ap, sym, ◌∙◌}
-use mathlib.Core.Logic.{inl, inr}
 use mathlib.Core.List.{List}
 use Prim.Native.Nat.{ℕ, ◌-◌, ◌≤◌, ◌<◌}
 use lib.ListN.{length, get_or}
@@ -14,160 +13,143 @@ use Rattle.block_states.specs.Links.{group_named, Linked}
 use Rattle.block_list.proofs.ListLaw.{number_within}
 use Rattle.block_states.proofs.LinkLaw.{linked_start, linked_few, linked_head, turn_new, turn_seen, linked_end}
 use Rattle.block_states.proofs.links.link.Statement.{statement}
+use Rattle.block_states.proofs.links.link.Lts.{then-first-group-eq-MOST_NUMBERS, else-first-group-eq-MOST_NUMBERS}
 use Rattle.block_states.proofs.links.link.Tie as tie
 
-abbrev invariant-loop : tie.invariant-loop
+abbrev invariant-loop : tie.invariant-loop-i
 invariant-loop blocks first₀ next₀ named₀ groups₀ i₀ first next named groups i =
     (i ≤ number_count blocks)
     × Linked (group_named present blocks) present.most_groups i (number_count blocks - i) first next named groups
 
-abbrev decreases-loop : tie.decreases-loop
+abbrev decreases-loop : tie.decreases-loop-i
 decreases-loop blocks first₀ next₀ named₀ groups₀ i₀ first next named groups i = i
 
--- where it starts, before the loop
-abbrev start : tie.At-loop invariant-loop decreases-loop → tie.Start invariant-loop decreases-loop
-start c = c.before.before.before.before.before.before
-
 -- the list, and the place of the number that a turn links
-abbrev list : tie.At-loop invariant-loop decreases-loop → List ℕ
-list c = (start c).args.blocks.now
+abbrev list : tie.At-loop-i invariant-loop decreases-loop → List ℕ
+list c = c.args.blocks.now
 
-abbrev place : tie.At-loop invariant-loop decreases-loop → ℕ
-place c = c.loop.i - 1
+abbrev place : tie.At-loop-i invariant-loop decreases-loop → ℕ
+place c = c.loop-i.i - 1
 
-inside : (c : tie.In-loop invariant-loop decreases-loop) → place c.before < number_count (list c.before)
-inside c = omega (arith, c.loop-test.true, c.before.loop.invariant.0)
+inside : (c : tie.In-loop-i invariant-loop decreases-loop) → place c.before < number_count (list c.before)
+inside c = omega (arith, c.loop-i-test.true, c.loop-i.invariant.0)
 
 -- its group
-abbrev group : tie.At-loop invariant-loop decreases-loop → ℕ
+abbrev group : tie.At-loop-i invariant-loop decreases-loop → ℕ
 group c = group_named present (list c) (place c)
 
-group-is : (c : tie.After-group-of invariant-loop decreases-loop) → c.Group-of.result ≡ group c.before.before.before
-group-is c = c.Group-of.ensures ∙ ap (group_of present) c.before.number.ensures
+group-is : (c : tie.After-group_of-group invariant-loop decreases-loop) → c.group_of-group.result ≡ group c.before.before.before
+group-is c = c.group_of-group.ensures ∙ ap (group_of present) c.number.ensures
 
-group_known : (c : tie.After-group-of invariant-loop decreases-loop) → group c.before.before.before < present.most_groups
+group_known : (c : tie.After-group_of-group invariant-loop decreases-loop) → group c.before.before.before < present.most_groups
 group_known c =
-    let test = c.before.before in
-    (start test.before).pre.list.range (place test.before) (inside test)
+    c.requires.list.range (place c.before.before.before) (inside c.before.before)
 
 -- the first place of the group so far is no more than the sign for none
-head-most : (c : tie.After-group-of invariant-loop decreases-loop)
-    → get_or c.before.before.before.loop.first c.Group-of.result 0 ≤ most_numbers
+head-most : (c : tie.After-group_of-group invariant-loop decreases-loop)
+    → get_or c.before.before.before.loop-i.first c.group_of-group.result 0 ≤ most_numbers
 head-most c =
-    let loop = c.before.before.before in
-    let inv = loop.loop.invariant in
-    linked_head _ _ _ _ _ _ _ _ inv.1 (omega (arith, inv.0, (start loop).requires.list.few)) c.Group-of.result
+    let inv = c.loop-i.invariant in
+    linked_head _ _ _ _ _ _ _ _ inv.1 (omega (arith, inv.0, c.requires.list.few)) c.group_of-group.result
     (omega (arith, group-is c, group_known c))
 
-loop-holds : tie.Need-loop-init invariant-loop decreases-loop
+loop-holds : tie.Need-loop-i-init invariant-loop decreases-loop
 loop-holds c =
-    let start = c.before.before.before.before.before in
-    let n = c.count.ensures in
-    (omega (arith, n), linked_start _ _ _ _ _ _ _ (omega (arith, n)) start.requires.heads start.requires.nexts_size start.requires.named_size)
+    let n = c.count-i.ensures in
+    (omega (arith, n), linked_start _ _ _ _ _ _ _ (omega (arith, n)) c.requires.heads c.requires.nexts_size c.requires.named_size)
 
 number-requires : tie.Need-number-requires invariant-loop decreases-loop
 number-requires c κs = number_within (list c.before) (place c.before) (inside c)
 
-mul-if1 : tie.Need-overflow-mul-if1 invariant-loop decreases-loop
+mul-if1 : tie.Need-offset_bounds-first-group invariant-loop decreases-loop
 mul-if1 c =
     let known = group_known c in
     let same = group-is c in
     search rules
 
-slice-read-if1 : tie.Need-slice-read-if1 invariant-loop decreases-loop
+slice-read-if1 : tie.Need-bounds-first-group invariant-loop decreases-loop
 slice-read-if1 c =
-    let grouped = c.before in
-    let loop = grouped.before.before.before in
-    omega (arith, group-is grouped, group_known grouped, loop.loop.invariant.1.heads_size)
+    omega (arith, group-is c.before, group_known c.before, c.loop-i.invariant.1.heads_size)
 
-cast-if1 : tie.Need-overflow-cast-if1 invariant-loop decreases-loop
+cast-if1 : tie.Need-overflow_cast-first invariant-loop decreases-loop
 cast-if1 c =
     let most = head-most c.before in
     search rules
 
-cast-named : tie.Need-overflow-cast-named invariant-loop decreases-loop
+cast-named : tie.Need-overflow_cast-named invariant-loop decreases-loop
 cast-named c =
     let known = group_known c.before.before in
     let same = group-is c.before.before in
     search rules
 
 -- there is a place for one more group
-named-few : (c : tie.In-loop invariant-loop decreases-loop) → c.before.loop.groups < most_numbers
+named-few : (c : tie.In-loop-i invariant-loop decreases-loop) → c.before.loop-i.groups < most_numbers
 named-few c =
-    let inv = c.before.loop.invariant in
-    omega (arith, c.loop-test.true, inv.0, linked_few _ _ _ _ _ _ _ _ inv.1, (start c.before).pre.list.few)
+    let inv = c.loop-i.invariant in
+    omega (arith, c.loop-i-test.true, inv.0, linked_few _ _ _ _ _ _ _ _ inv.1, c.requires.list.few)
 
-slice-write-named : tie.Need-slice-write-named invariant-loop decreases-loop
+slice-write-named : tie.Need-bounds-named-groups invariant-loop decreases-loop
 slice-write-named c =
-    let test = c.before.before.before.before in
-    omega (arith, named-few test, test.before.loop.invariant.1.named_size)
+    omega (arith, named-few c.before.before.before.before, c.loop-i.invariant.1.named_size)
 
-add-groups : tie.Need-overflow-add-groups invariant-loop decreases-loop
+add-groups : tie.Need-overflow_add-groups invariant-loop decreases-loop
 add-groups c =
     let few = named-few c.before.before.before.before in
     search rules
 
-mul_next : tie.Need-overflow-mul-next invariant-loop decreases-loop
+mul_next : tie.Need-offset_bounds-first-group-in-loop-i invariant-loop decreases-loop
 mul_next c =
     let known = group_known c.before.before in
     let same = group-is c.before.before in
     search rules
 
-slice-read-next : tie.Need-slice-read-next invariant-loop decreases-loop
+slice-read-next : tie.Need-bounds-first-group-in-loop-i invariant-loop decreases-loop
 slice-read-next c =
-    let grouped = c.before.before.before in
-    omega (arith, group-is grouped, group_known grouped, grouped.before.before.before.loop.invariant.1.heads_size)
+    omega (arith, group-is c.before.before.before, group_known c.before.before.before, c.loop-i.invariant.1.heads_size)
 
-cast-next : tie.Need-overflow-cast-next invariant-loop decreases-loop
+cast-next : tie.Need-overflow_cast-next invariant-loop decreases-loop
 cast-next c =
     let most = head-most c.before.before.before in
     search rules
 
-cast-first : tie.Need-overflow-cast-first invariant-loop decreases-loop
+cast-first : tie.Need-overflow_cast-first-in-loop-i invariant-loop decreases-loop
 cast-first c =
-    let test = c.before.before.before.before.before in
-    let place = inside test in
-    let few = (start test.before).pre.list.few in
+    let place = inside c.before.before.before.before.before in
+    let few = c.requires.list.few in
     search rules
 
-mul-first : tie.Need-overflow-mul-first invariant-loop decreases-loop
+mul-first : tie.Need-offset_bounds-first-group-in-loop-i-2 invariant-loop decreases-loop
 mul-first c =
     let known = group_known c.before.before.before in
     let same = group-is c.before.before.before in
     search rules
 
-slice-write-first : tie.Need-slice-write-first invariant-loop decreases-loop
+slice-write-first : tie.Need-bounds-first-group-in-loop-i-2 invariant-loop decreases-loop
 slice-write-first c =
-    let grouped = c.before.before.before in
-    omega (arith, group-is grouped, group_known grouped, grouped.before.before.before.loop.invariant.1.heads_size)
+    omega (arith, group-is c.before.before.before, group_known c.before.before.before, c.loop-i.invariant.1.heads_size)
 
-loop-again : tie.Need-loop-preserved invariant-loop decreases-loop
+loop-again : tie.Need-loop-i-preserved invariant-loop decreases-loop
 loop-again c =
-    let joined = c.before in
-    let grouped = joined.before.before in
-    let test = grouped.before.before in
-    let loop = test.before in
-    let inv = loop.loop.invariant in
-    let few = (start loop).requires.list.few in (
-      omega (arith, inside test),
-      elim joined.if1.branch [
-        | inl new ↦ turn_new _ _ _ _ _ _ _ _ _ _ inv.1 (omega (arith, test.loop-test.true)) inv.0 few (group-is grouped) (group_known grouped) _ _
-            new.0.taken new.1 new.2
-        | inr seen ↦ turn_seen _ _ _ _ _ _ _ _ _ _ inv.1 (omega (arith, test.loop-test.true)) inv.0 few (group-is grouped) (group_known grouped) _ _
-            seen.0.left seen.1 seen.2
+    let inv = c.loop-i.invariant in
+    let few = c.requires.list.few in (
+      omega (arith, inside c.before.before.before.before.before),
+      elim c.if-first-group-eq-MOST_NUMBERS.branch [
+        | then-first-group-eq-MOST_NUMBERS new ↦ turn_new _ _ _ _ _ _ _ _ _ _ inv.1 (omega (arith, c.loop-i-test.true)) inv.0 few (group-is c.before.before.before) (group_known c.before.before.before) _ _
+            new.if-first-group-eq-MOST_NUMBERS.true new.named-is new.groups-is
+        | else-first-group-eq-MOST_NUMBERS seen ↦ turn_seen _ _ _ _ _ _ _ _ _ _ inv.1 (omega (arith, c.loop-i-test.true)) inv.0 few (group-is c.before.before.before) (group_known c.before.before.before) _ _
+            seen.if-first-group-eq-MOST_NUMBERS.false seen.named-is seen.groups-is
       ],
     )
 
-same_length : tie.Need-same-length invariant-loop decreases-loop
+same_length : tie.Need-shape_of-first invariant-loop decreases-loop
 same_length c =
-    let loop = c.before in
-    loop.loop.invariant.1.heads_size ∙ sym (ap length (start loop).requires.heads ∙ repeated_length present.most_groups most_numbers)
+    c.loop-i.invariant.1.heads_size ∙ sym (ap length c.requires.heads ∙ repeated_length present.most_groups most_numbers)
 
 returns : tie.Need-returns invariant-loop decreases-loop
-returns c = linked_end _ _ _ _ _ _ _ _ (omega (arith, c.loop-test.false)) c.before.loop.invariant.1
+returns c = linked_end _ _ _ _ _ _ _ _ (omega (arith, c.loop-i-test.false)) c.loop-i.invariant.1
 
-pub link-spec : {M : Type 1} → statement M
-link-spec =
+pub link_spec : {M : Type 1} → statement M
+link_spec =
     tie.close
     (tie.spec
     invariant-loop

@@ -17,21 +17,6 @@ use Rattle.effects.proofs.changes.change.Statement.{statement}
 use Rattle.effects.proofs.changes.change.Tie as tie
 
 -- the states on the way back: the changed page made, the content stored, the other page evicted, the last time set, the start
-abbrev made : tie.After-hold-or-put → tie.After-store-changed
-made c = c.before.before.before.before.before.before.before
-
-abbrev filled : tie.After-store-changed → tie.After-put-content
-filled c = c.before.before.before.before
-
-abbrev evicted : tie.After-put-content → tie.After-evict
-evicted c = c.before.before.before.before
-
-abbrev timed : tie.After-evict → tie.After-set-last-time
-timed c = c.before.before.before.before.before
-
-abbrev start : tie.After-set-last-time → tie.Start
-start c = c.before.before.before.before.before.before.before.before
-
 -- the memory at entry has the block's group
 has : (c : tie.Start) → HasCount present c.args.memory.now (group_of present c.args.block)
 has c =
@@ -40,38 +25,30 @@ has c =
 
 evict-requires : tie.Need-evict-requires
 evict-requires c κs =
-    let set = c.before.before.before.before in
-    let ready = (start set).requires in
-    timed_box σ _ _ _ set.set-last-time.ensures ready.may.time (start set).args.disk.now ready.box
+    let ready = c.requires in
+    timed_box σ _ _ _ c.set_last_time.ensures ready.may.time c.args.disk.now ready.box
 
-put-content-requires : tie.Need-put-content-requires
+put-content-requires : tie.Need-put_content-requires
 put-content-requires c κs =
-    let kept = c.before.before in
-    let ready = (start (timed kept.before)).requires in
-    (has_group_of σ _ _ _ (kept.disk.given ∙ ready.box.disk) ready.block, ready.content_size)
+    let ready = c.requires in
+    (has_group_of σ _ _ _ (c.disk-1.given ∙ ready.box.disk) ready.block, ready.content_size)
 
-store-changed-requires : tie.Need-store-changed-requires
-store-changed-requires c κs = ((start (timed (evicted c.before.before.before))).requires.may, search rules)
+store-changed-requires : tie.Need-store_changed-requires
+store-changed-requires c κs = (c.requires.may, search rules)
 
-hold-or-put-requires : tie.Need-hold-or-put-requires
+hold-or-put-requires : tie.Need-hold_or_put-requires
 hold-or-put-requires c κs =
-    let changed = c.before.before.before.before.before.before in
-    let put = filled changed in
-    let set = timed (evicted put) in
-    let ready = (start set).pre in
-    timed_hold σ _ _ _ set.set-last-time.ensures ready.may.time (start set).args.disk.now _ _ _ _ ready.box
-    (changed.before.before.before.disk2.given ∙ put.before.before.before.disk.given) ready.block
-    set.before.before.Group-of.ensures ready.unexhausted (search rules)
+    let ready = c.requires in
+    timed_hold σ _ _ _ c.set_last_time.ensures ready.may.time c.args.disk.now _ _ _ _ ready.box
+    (c.disk-2-1.given ∙ c.disk-1.given) ready.block
+    c.group_of-group.ensures ready.unexhausted (search rules)
 
-store-tag-requires : tie.Need-store-tag-requires
+store-tag-requires : tie.Need-store_tag-requires
 store-tag-requires c κs =
-    let kept = c.before.before.before.before.before in
-    let out = evicted (filled (made kept.before)) in
-    let set = timed out in
-    let h = has (start set) in (
+    let h = has c.before.before.before.before.before.before.before.before.before.before.before.before.before.before.before.before.before.before.before.before.before.before.before.before.before.before.before.before.before.before.before in (
       record {
-        size = kept.memory2.given ∙ out.before.before.before.before.memory.given ∙ h.size;
-        group = omega (arith, set.before.before.Group-of.ensures, h.group);
+        size = c.memory-2-1.given ∙ c.memory-1.given ∙ h.size;
+        group = omega (arith, c.group_of-group.ensures, h.group);
       },
       search rules,
     )
@@ -79,18 +56,13 @@ store-tag-requires c κs =
 returns : tie.Need-returns
 unfolding part
 returns c =
-    let tagged = c.before.before in
-    let held = tagged.before.before.before.before.before.before.before in
-    let changed = made held in
-    let put = filled changed in
-    let set = timed (evicted put) in
-    let x = (start set).args in
-    change_outcome σ _ _ _ _ _ x.answer.now _ _ _ _ _ _ _ _ _ _ (start set).pre.may set.before.before.Group-of.ensures
-    set.set-last-time.ensures (evicted put).evict.ensures put.put-content.ensures changed.store-changed.ensures
-    held.hold-or-put.ensures.1 held.hold-or-put.ensures.0 tagged.store-tag.ensures
+    let x = c.args in
+    change_outcome σ _ _ _ _ _ x.answer.now _ _ _ _ _ _ _ _ _ _ c.requires.may c.group_of-group.ensures
+    c.set_last_time.ensures c.evict.ensures c.put_content.ensures c.store_changed.ensures
+    c.hold_or_put.ensures.1 c.hold_or_put.ensures.0 c.store_tag.ensures
 
-pub change-spec : {M : Type 1} → statement M
-change-spec =
+pub change_spec : {M : Type 1} → statement M
+change_spec =
     tie.close
     (tie.spec (λ c κs. search rules) (λ c κs. (has c.before.before.before.before.before.before.before).size) evict-requires
     put-content-requires (λ c. search rules) (λ c. search rules) (λ c. search rules) store-changed-requires (λ c. search rules)

@@ -9,27 +9,24 @@ use Rattle.machine.specs.Effect.{stored, put_content}
 use Rattle.effects.proofs.changes.put_content.Statement.{statement}
 use Rattle.effects.proofs.changes.put_content.Tie as tie
 
-store-block-requires : tie.Need-store-block-requires
+store-block-requires : tie.Need-store_block-requires
 store-block-requires c κs =
-    let told = c.before in
-    let start = told.before.before.before.before in
-    (start.requires.0, start.requires.1 ∙ ap (λ (u : Update). content_length present (Change u)) told.enum_told.given.1)
+    (c.requires.0, c.requires.1 ∙ ap (λ (u : Update). content_length present (Change u)) c.in-Write.is)
 
-write : tie.Need-returns
+write : tie.Need-returns-in-Write
 unfolding stored put_content
 write c =
-    let called = c.before.before in
-    rw called.before.before.enum_told.given.1 called.store-block.ensures
+    rw c.in-Write.is c.store_block.ensures
 
-unfreeze : tie.Need-returns-2
+unfreeze : tie.Need-returns-in-Unfreeze
 unfolding stored put_content
-unfreeze c = rw c.enum-told2.given.1
+unfreeze c = rw c.in-Unfreeze.is
 
-increment : tie.Need-returns-3
+increment : tie.Need-returns-in-Increment
 unfolding stored put_content
-increment c = rw c.enum-told3.given.1
+increment c = rw c.in-Increment.is
 
-pub put-content-spec : {M : Type 1} → statement M
-put-content-spec =
+pub put_content_spec : {M : Type 1} → statement M
+put_content_spec =
     tie.close
     (tie.spec (λ c. search rules) store-block-requires (λ c. search rules) (λ c. search rules) (λ c. search rules) write unfreeze increment)

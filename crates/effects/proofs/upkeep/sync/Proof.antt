@@ -8,34 +8,23 @@ use Rattle.effects.proofs.upkeep.sync.Statement.{statement}
 use Rattle.effects.proofs.upkeep.sync.Tie as tie
 
 -- the states on the way back: the last time set, the start
-abbrev timed : tie.After-put-held → tie.After-set-last-time
-timed c = c.before.before.before.before.before
-
-abbrev start : tie.After-set-last-time → tie.Start
-start c = c.before.before.before.before.before
-
-sound : tie.Need-put-held-requires
+sound : tie.Need-put_held-requires
 sound c κs =
-    let set = c.before.before.before.before in
-    let known = (start set).requires in
-    timed_box σ _ _ _ set.set-last-time.ensures known.time (start set).args.disk.now known.box
+    let known = c.requires in
+    timed_box σ _ _ _ c.set_last_time.ensures known.time c.args.disk.now known.box
 
-none-requires : tie.Need-hold-none-requires
+none-requires : tie.Need-hold_none-requires
 none-requires c κs =
-    let size = (facts σ _ (start (timed c.before.before.before)).requires.box.memory).size in
+    let size = (facts σ _ c.requires.box.memory).size in
     search rules
 
 returns : tie.Need-returns
 returns c =
-    let zeroed = c.before.before in
-    let dropped = zeroed.before.before.before.before in
-    let put = dropped.before.before.before.before in
-    let set = timed put in
-    synced σ _ _ _ set.set-last-time.ensures _ _ (start set).pre.answer_size_is zeroed.zero-tail.ensures _ _ _ put.put-held.ensures
-    dropped.hold-none.ensures
+    synced σ _ _ _ c.set_last_time.ensures _ _ c.requires.answer_size_is c.zero_tail.ensures _ _ _ c.put_held.ensures
+    c.hold_none.ensures
 
-pub sync-spec : {M : Type 1} → statement M
-sync-spec =
+pub sync_spec : {M : Type 1} → statement M
+sync_spec =
     tie.close
-    (tie.spec (λ c κs. (facts σ _ c.before.before.before.before.requires.box.memory).size) sound none-requires (λ c κs. search rules)
+    (tie.spec (λ c κs. (facts σ _ c.requires.box.memory).size) sound none-requires (λ c κs. search rules)
     (λ c. search rules) (λ c. search rules) (λ c. search rules) returns)

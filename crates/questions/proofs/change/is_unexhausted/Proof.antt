@@ -10,5 +10,5 @@ use Rattle.questions.proofs.change.is_unexhausted.Tie as tie
 returns : tie.Need-returns
 returns c = ap (λ (n : ℕ). ltb n count_limit) c.count.ensures
 
-pub is-unexhausted-spec : {M : Type 1} → statement M
-is-unexhausted-spec = tie.close (tie.spec (λ c κs. search rules) returns)
+pub is_unexhausted_spec : {M : Type 1} → statement M
+is_unexhausted_spec = tie.close (tie.spec (λ c κs. search rules) returns)

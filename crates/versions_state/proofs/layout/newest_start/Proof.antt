@@ -6,5 +6,5 @@ use Rattle.versions_state.proofs.layout.newest_start.Tie as tie
 returns : tie.Need-returns
 returns c = search rules
 
-pub newest-start-spec : {M : Type 1} → statement M
-newest-start-spec = tie.close (tie.spec (λ c. search rules) (λ c. search rules) returns)
+pub newest_start_spec : {M : Type 1} → statement M
+newest_start_spec = tie.close (tie.spec (λ c. search rules) (λ c. search rules) returns)
