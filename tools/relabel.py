@@ -88,12 +88,26 @@ def steps_back(body, of):
 
 def steps_between(of, place, to):
     """How many steps lie between a place and an earlier one, or None."""
-    names = dict(zip((one[0] for one in of["places"]), of["places_by_name"]))
-    above = {new: names.get(one[1]) for one, new in zip(of["places"], of["places_by_name"])}
-    steps = 0
-    while place and place != to:
-        place, steps = above.get(place), steps + 1
-    return steps if place else None
+    old = [one[0] for one in of["places"]]
+    above = [old.index(one[1]) if one[1] else None for one in of["places"]]
+    at, steps = (of["places_by_name"].index(place) if place in of["places_by_name"] else None), 0
+    while at is not None and of["places_by_name"][at] != to:
+        # An arm is one step today, where it was several.
+        for _ in range(of["arms"][at][1] if of["arms"][at] else 1):
+            at = above[at] if at is not None else None
+        steps += 1
+    return steps if at is not None else None
+
+
+def arm_facts(body, of):
+    """The facts of an arm, by the names that they have below it."""
+    labels = {one[2][0]: one[2][1] for one in of["places"]}
+    for arm in of["arms"]:
+        for name, step, path in arm[2] if arm else []:
+            if path and step in labels:
+                old = ".".join([labels[step], *path])
+                body = re.sub(r"(?<=\w)(?:\.before)*\.%s(?![\w-])" % re.escape(old), f".{arm[0]}.{name}", body)
+    return body
 
 
 def passed_on(text, of, place, lemmas, functions, c):
@@ -158,6 +172,19 @@ def in_place_of_needs(part, of, lemmas, functions, at_need):
     return part
 
 
+def last_values(body, of):
+    """What a call left in an argument, by the parameter's name."""
+    for _, _, (_, label), callee, _ in of["places"]:
+        params = of["params"].get(callee) if callee else None
+        if params:
+            body = re.sub(
+                r"\.%s\.(?:new|last)((?:\.1)*)\.0(?![\w.])" % re.escape(label),
+                lambda it: f".{label}.new.{params[it[1].count('1')]}" if it[1].count("1") < len(params) else it[0],
+                body,
+            )
+    return body
+
+
 def relabelled(text, of, name):
     needs, places, fields, loops = tables(of)
     known = set(places.values()) | set(fields.values())
@@ -198,6 +225,7 @@ def relabelled(text, of, name):
     body = re.sub(r"\beq-(?:true|false)_of_not-eq-(?:true|false)' (?=[\w.-]+\.(?:true|false)\b)", "", body)
     body = re.sub(r"(?<=[\w)])\.pre\b", ".requires", body)
     body = re.sub(r"(?<=[\w)])\.inv\b", ".invariant", body)
+    body = last_values(arm_facts(body, of), of)
     body = flatten.without_unused(recounted(flatten.body_flattened(steps_back(body, of)), of))
     dashed = plain(name) + "-spec"
     body = re.sub(r"(?<![\w.-])%s(?![\w-])" % re.escape(dashed), name + "_spec", body)

@@ -15,7 +15,7 @@ use Rattle.machine.specs.declared.Kind.TheVariants.{Read, Entry, Page, Change, S
 use Rattle.machine.specs.Command.{Box, Command, box_of, command_of, outcome_of, kind_numbered}
 use Rattle.machine.specs.Question.{question11, questions, questions_to, first_no, refusal, AllYes}
 use Rattle.machine.specs.Effect.{change, effect}
-use Rattle.machine.specs.Step.{timed, done, accepted, step}
+use Rattle.machine.specs.Step.{timed, done, accepted}
 use Rattle.machine.proofs.QuestionLaw.{all_numbered, accepted_yes}
 use Rattle.machine.proofs.PassedLaw.{passed, changes}
 use Rattle.machine.proofs.StepLaw.{step_accepted, refused_of}

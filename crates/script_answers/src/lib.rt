@@ -1,5 +1,6 @@
 // A line of a script: its command is run, and what it answers is printed. The contracts cite specs/.
 #![tactic(auto)]
+
 pub mod printing;
 
 ghost use Rattle.std.specs.Prelude.{◌≡◌};

@@ -2,6 +2,7 @@
 // disk, and alters them by controller::update alone. Its calls have no precondition, and their contracts fix the numbers answered and
 // every byte of state, memory and disk by the definitions of versions_bytes.
 #![tactic(auto)]
+
 ghost use Rattle.std.specs.Prelude.{◌≡◌};
 ghost use Rattle.lockpage.specs.Geometry.{present};
 ghost use Rattle.memory.specs.Memory.{groups};

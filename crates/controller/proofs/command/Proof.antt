@@ -13,39 +13,27 @@ use Rattle.controller.proofs.command.Statement.{statement}
 use Rattle.controller.proofs.command.Tie as tie
 
 -- the states on the way back: the kind found, the questions asked, the start
-abbrev found : tie.After-carry-out-arg3 → tie.After-kind-numbered
-found c = c.before.before.before
-
-abbrev asked : tie.After-kind-numbered → tie.After-refusal
-asked c = c.before.before
-
-abbrev start : tie.After-refusal → tie.Start
-start c = c.before.before.before.before.before.before.before.before.before
-
-refused : tie.Need-returns
+refused : tie.Need-returns-then-number-ne-ACCEPTED
 refused c =
-    let x = (start c.before).args in
+    let x = c.args in
     comes_refused σ (kind_numbered x.kind x.value) x.memory.now x.disk.now x.block x.time x.content.now x.proof.now
-    x.answer.now _ c.before.refusal.ensures (λ z. omega (arith, c.if1.true, z)) x.kind x.value refl
+    x.answer.now _ c.refusal-number.ensures (λ z. omega (arith, c.if-number-ne-ACCEPTED.true, z)) x.kind x.value refl
 
-carry-out-requires : tie.Need-carry-out-requires
+carry-out-requires : tie.Need-carry_out-requires
 carry-out-requires c κs =
-    let named = found c in
-    let x = (start (asked named)).args in
+    let x = c.args in
     let given = command_of 0 x.block x.time 0 x.content.now x.proof.now x.answer.now in
-    ap (λ (k : Kind). first_no (first_questions present k (box_of x.memory.now x.disk.now) given)) named.kind-numbered.ensures
-    ∙ sym (asked named).refusal.ensures
-    ∙ omega (arith, named.before.if1.left)
+    ap (λ (k : Kind). first_no (first_questions present k (box_of x.memory.now x.disk.now) given)) c.kind_numbered-k.ensures
+    ∙ sym c.refusal-number.ensures
+    ∙ omega (arith, c.if-number-ne-ACCEPTED.false)
 
-carried-out : tie.Need-returns-2
+carried-out : tie.Need-returns
 carried-out c =
-    let done = c.before.before.before.before.before.before in
-    let named = found done.before in
-    let x = (start (asked named)).args in
-    done.carry-out.ensures x.kind x.value (sym named.kind-numbered.ensures)
+    let x = c.args in
+    c.carry_out.ensures x.kind x.value (sym c.kind_numbered-k.ensures)
 
-pub command-spec : {M : Type 1} → statement M
-command-spec =
+pub command_spec : {M : Type 1} → statement M
+command_spec =
     tie.close
     (tie.spec (λ c κs. search rules) (λ c. search rules) (λ c. search rules) (λ c. search rules) refused (λ c κs. search rules) carry-out-requires
     (λ c. search rules) (λ c. search rules) (λ c. search rules) carried-out)

@@ -10,43 +10,32 @@ use Rattle.controller.proofs.new_salt.Statement.{statement}
 use Rattle.controller.proofs.new_salt.Tie as tie
 
 -- the states on the way back: the question passed, the start
-abbrev passed : tie.After-new-salt-arg3 → tie.Else1
-passed c = c.before.before.before
-
-abbrev start : tie.After-salt-refusal-arg → tie.Start
-start c = c.before.before.before.before.before.before
-
-salt-refusal-requires : tie.Need-salt-refusal-requires
+salt-refusal-requires : tie.Need-salt_refusal-unchanged-requires
 salt-refusal-requires c κs =
-    let x = (start c).args in
+    let x = c.args in
     salt_size_is σ (box_of x.memory.now x.disk.now)
-    (command_of 0 x.block x.time 0 x.content.now x.proof.now x.answer.now) (start c).requires
+    (command_of 0 x.block x.time 0 x.content.now x.proof.now x.answer.now) c.requires
 
-refused : tie.Need-returns
+refused : tie.Need-returns-then-unchanged-ne-ACCEPTED
 refused c =
-    let asked = c.before in
-    let x = (start asked.before).args in
+    let x = c.args in
     salt_refused σ x.memory.now x.disk.now x.block x.time x.content.now x.proof.now x.answer.now
-    (start asked.before).requires _ asked.salt-refusal.ensures (λ z. omega (arith, c.if1.true, z))
+    c.requires _ c.salt_refusal-unchanged.ensures (λ z. omega (arith, c.if-unchanged-ne-ACCEPTED.true, z))
 
-new-salt-requires : tie.Need-new-salt-requires
+new-salt-requires : tie.Need-new_salt-requires
 new-salt-requires c κs =
-    let asked = (passed c).before in
-    let x = (start asked.before).args in
+    let x = c.args in
     salt_passed σ x.memory.now x.disk.now x.block x.time x.content.now x.proof.now x.answer.now
-    (start asked.before).requires _ asked.salt-refusal.ensures (omega (arith, (passed c).if1.false))
+    c.requires _ c.salt_refusal-unchanged.ensures (omega (arith, c.if-unchanged-ne-ACCEPTED.false))
 
-accepted : tie.Need-returns-2
+accepted : tie.Need-returns
 unfolding effect
 accepted c =
-    let done = c.before.before.before.before.before.before in
-    let yes = passed done.before in
-    let asked = yes.before in
-    let x = (start asked.before).args in
+    let x = c.args in
     salt_made σ x.memory.now x.disk.now x.block x.time x.content.now x.proof.now x.answer.now
-    (start asked.before).requires _ asked.salt-refusal.ensures (omega (arith, yes.if1.left)) _ _ _ done.new_salt_is.ensures
+    c.requires _ c.salt_refusal-unchanged.ensures (omega (arith, c.if-unchanged-ne-ACCEPTED.false)) _ _ _ c.new_salt.ensures
 
-pub new-salt-spec : {M : Type 1} → statement M
-new-salt-spec =
+pub new_salt_spec : {M : Type 1} → statement M
+new_salt_spec =
     tie.close
     (tie.spec salt-refusal-requires (λ c. search rules) refused new-salt-requires (λ c. search rules) (λ c. search rules) (λ c. search rules) accepted)

@@ -10,43 +10,32 @@ use Rattle.controller.proofs.update.Statement.{statement}
 use Rattle.controller.proofs.update.Tie as tie
 
 -- the states on the way back: the questions passed, the start
-abbrev passed : tie.After-change-arg3 → tie.Else1
-passed c = c.before.before.before
-
-abbrev start : tie.After-refusal-arg → tie.Start
-start c = c.before.before.before.before.before.before
-
-refusal-requires : tie.Need-refusal-requires
+refusal-requires : tie.Need-refusal-refusal-requires
 refusal-requires c κs =
-    let x = (start c).args in
+    let x = c.args in
     update_ready σ x.u (box_of x.memory.now x.disk.now)
-    (command_of 0 x.block x.time 0 x.content.now x.proof.now x.answer.now) (start c).requires
+    (command_of 0 x.block x.time 0 x.content.now x.proof.now x.answer.now) c.requires
 
-refused : tie.Need-returns
+refused : tie.Need-returns-then-refusal-ne-ACCEPTED
 refused c =
-    let asked = c.before in
-    let x = (start asked.before).args in
+    let x = c.args in
     update_refused σ x.u x.memory.now x.disk.now x.block x.time x.content.now x.proof.now x.answer.now
-    (start asked.before).requires _ asked.refusal.ensures (λ z. omega (arith, c.if1.true, z))
+    c.requires _ c.refusal-refusal.ensures (λ z. omega (arith, c.if-refusal-ne-ACCEPTED.true, z))
 
 change-requires : tie.Need-change-requires
 change-requires c κs =
-    let asked = (passed c).before in
-    let x = (start asked.before).args in
+    let x = c.args in
     update_passed σ x.u x.memory.now x.disk.now x.block x.time x.content.now x.proof.now x.answer.now
-    (start asked.before).requires _ asked.refusal.ensures (omega (arith, (passed c).if1.false))
+    c.requires _ c.refusal-refusal.ensures (omega (arith, c.if-refusal-ne-ACCEPTED.false))
 
-accepted : tie.Need-returns-2
+accepted : tie.Need-returns
 unfolding effect
 accepted c =
-    let done = c.before.before.before.before.before.before in
-    let yes = passed done.before in
-    let asked = yes.before in
-    let x = (start asked.before).args in
+    let x = c.args in
     update_made σ x.u x.memory.now x.disk.now x.block x.time x.content.now x.proof.now x.answer.now
-    (start asked.before).requires _ asked.refusal.ensures (omega (arith, yes.if1.left)) _ _ _ done.change.ensures
+    c.requires _ c.refusal-refusal.ensures (omega (arith, c.if-refusal-ne-ACCEPTED.false)) _ _ _ c.change.ensures
 
-pub update-spec : {M : Type 1} → statement M
-update-spec =
+pub update_spec : {M : Type 1} → statement M
+update_spec =
     tie.close
     (tie.spec refusal-requires (λ c. search rules) refused change-requires (λ c. search rules) (λ c. search rules) (λ c. search rules) accepted)

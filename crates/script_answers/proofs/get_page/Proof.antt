@@ -6,10 +6,8 @@ use Rattle.script_answers.proofs.get_page.Tie as tie
 
 returns : tie.Need-returns
 returns c =
-    let timed = c.before.before.before.before.before.before in
-    let start = timed.before.before.before in
-    page_got_lem _ _ _ _ _ _ _ _ timed.last_time_is.ensures start.requires c.command.ensures
+    page_got_lem _ _ _ _ _ _ _ _ c.last_time-time.ensures c.requires c.command.ensures
 
-pub get-page-spec : {M : Type 1} → statement M
-get-page-spec =
+pub get_page_spec : {M : Type 1} → statement M
+get_page_spec =
     tie.close (tie.spec (λ c κs. search rules) (λ c. search rules) (λ c. search rules) (λ c κs. search rules) returns)

@@ -10,62 +10,50 @@ use Rattle.script_answers.proofs.run.Statement.{statement}
 use Rattle.script_answers.proofs.run.Tie as tie
 
 -- the states on the way back: no proof asked for; the page got, a proof asked for; the kind found
-abbrev none : tie.After-send-arg2 → tie.Then1
+abbrev none : tie.After-send-arg-then-proof_length-eq0-1 → tie.Then-proof_length-eq0
 none c = c.before.before
 
-abbrev got : tie.After-send-arg5 → tie.After-get-page
-got c = c.before.before
+abbrev got : tie.After-send-arg-2-1 → tie.After-get_page
+got c = c.before
 
-abbrev some : tie.After-get-page → tie.Else1
+abbrev some : tie.After-get_page → tie.Else-proof_length-eq0
 some c = c.before.before.before.before
 
-abbrev found : tie.After-content-length → tie.After-kind-numbered
-found c = c.before.before
-
 -- the content is no longer than a block
-fits : (c : tie.After-content-length) → c.content-length.result ≤ block_size present
-fits c = within (found c).kind-numbered.result _ c.content-length.ensures
+fits : (c : tie.After-content_length-n) → c.content_length-n.result ≤ block_size present
+fits c = within c.kind_numbered-k.result _ c.content_length-n.ensures
 
-share : tie.Need-array-share-prefix-content
+share : tie.Need-slice_bounds-content-end
 share c = fits (none c).before.before
 
-count : tie.Need-slice-aggregate-send
+count : tie.Need-slice_bounds-send-end
 count c = content_size _ _ (fits (none c.before).before.before)
 
-plain : tie.Need-returns
+plain : tie.Need-returns-then-proof_length-eq0
 plain c =
-    let test = none c.before.before.before in
-    let asked = test.before in
-    let sized = asked.before in
-    let kind = found sized in
-    let x = kind.before.args in
-    ran_plain x.memory.now x.disk.now x.v _ _ _ _ kind.kind-numbered.ensures sized.content-length.ensures
-    asked.proof-length.ensures (content_of_lem _ _ (fits sized)) test.if1.taken _ c.send.ensures
+    let x = c.args in
+    ran_plain x.memory.now x.disk.now x.v _ _ _ _ c.kind_numbered-k.ensures c.content_length-n.ensures
+    c.proof_length.ensures (content_of_lem _ _ (fits c.before.before.before.before.before.before.before.before)) c.if-proof_length-eq0.true _ c.send.ensures
 
-get-page-requires : tie.Need-get-page-requires
+get-page-requires : tie.Need-get_page-requires
 unfolding buffer repeated
 get-page-requires c κs = search rules
 
-share-2 : tie.Need-array-share-prefix-content-2
+share-2 : tie.Need-slice_bounds-content-end-2
 share-2 c = fits (some (got c)).before.before
 
-count-2 : tie.Need-slice-aggregate-send-3
+count-2 : tie.Need-slice_bounds-send-end-3
 count-2 c = content_size _ _ (fits (some (got c.before)).before.before)
 
 count-3 : tie.Need-slice-aggregate-send-4
-count-3 c = got_size _ _ (got c.before.before).get-page.ensures.1
+count-3 c = got_size _ _ c.get_page.ensures.1
 
-with-page : tie.Need-returns-2
+with-page : tie.Need-returns
 with-page c =
-    let page = got c.before.before.before in
-    let test = some page in
-    let asked = test.before in
-    let sized = asked.before in
-    let kind = found sized in
-    let x = kind.before.args in
-    ran_page x.memory.now x.disk.now x.v _ _ _ _ kind.kind-numbered.ensures sized.content-length.ensures
-    asked.proof-length.ensures (content_of_lem _ _ (fits sized)) test.if1.left _ _ page.get-page.ensures.0
-    page.get-page.ensures.1 _ c.send2.ensures
+    let x = c.args in
+    ran_page x.memory.now x.disk.now x.v _ _ _ _ c.kind_numbered-k.ensures c.content_length-n.ensures
+    c.proof_length.ensures (content_of_lem _ _ (fits c.before.before.before.before.before.before.before.before.before.before.before)) c.if-proof_length-eq0.false _ _ c.get_page.ensures.0
+    c.get_page.ensures.1 _ c.send-2.ensures
 
 pub run_spec : {M : Type 1} → statement M
 run_spec =

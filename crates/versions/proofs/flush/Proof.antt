@@ -1,6 +1,7 @@
 -- `versions::flush` meets its contract: nothing without records; else the first no, in order, or the log block stored. Assumes nothing.
+use mathlib.Core.Bool.{not}
 use borrow.Author.Rules.{rules}
-use mathlib.Core.Path.{sym, ◌∙◌}
+use mathlib.Core.Path.{ap, sym, ◌∙◌}
 use mathlib.Mathlib.Data.Bool.Basic.{eq-true_of_not-eq-false'}
 use native.Mathlib.Omega.{arith}
 use Rattle.octets.specs.Part.{Below}
@@ -12,61 +13,42 @@ use Rattle.versions.proofs.flush.Statement.{statement}
 use Rattle.versions.proofs.flush.Tie as tie
 
 -- the states on the way back: the records counted, the state looked at
-abbrev looked : tie.After-record-count → tie.Else1
-looked c = c.before.before
+no_state : tie.Need-returns-then-not-valid
+no_state c = law.flush_no_state σ _ _ _ _ _ c.valid.ensures (ap not c.if-not-valid.true)
 
-abbrev counted : tie.After-allocate → tie.Else2
-counted c = c.before.before.before.before
+record-count-requires : tie.Need-record_count-requires
+record-count-requires c κs = (facts present _ (sym c.valid.ensures ∙ c.if-not-valid.false)).size
 
-no_state : tie.Need-returns
-no_state c = law.flush_no_state σ _ _ _ _ _ c.before.valid.ensures c.if1.true
-
-record-count-requires : tie.Need-record-count-requires
-record-count-requires c κs = (facts present _ (sym c.before.before.valid.ensures ∙ eq-true_of_not-eq-false' c.before.if1.false)).size
-
-nothing : tie.Need-returns-2
+nothing : tie.Need-returns-then-record_count-eq0
 unfolding Below
 nothing c =
-    let yes = looked c.before in
-    let known = yes.before.before.before.before.before in
-    law.flush_nothing σ _ _ _ _ _ yes.before.valid.ensures yes.if1.left (λ i. omega (arith, known.slice-known.given i))
-    (omega (arith, c.before.record-count.ensures, c.if2.true))
+    law.flush_nothing σ _ _ _ _ _ c.valid.ensures (ap not c.if-not-valid.false) (λ i. omega (arith, c.slice_known-1.given i))
+    (omega (arith, c.record_count.ensures, c.if-record_count-eq0.true))
 
-allocate-requires : tie.Need-allocate-requires
+allocate-requires : tie.Need-allocate-next-requires
 allocate-requires c κs =
-    let yes = looked c.before.before.before.before in
-    sym yes.before.valid.ensures ∙ eq-true_of_not-eq-false' yes.if1.left
+    sym c.valid.ensures ∙ c.if-not-valid.false
 
-no_box : tie.Need-returns-3
+no_box : tie.Need-returns-then-next-ne-ACCEPTED
 no_box c =
-    let found = c.before.before in
-    let some = counted found in
-    let yes = looked some.before in
-    law.flush_no_box σ _ _ _ _ _ yes.before.valid.ensures yes.if1.left (λ z. some.if2.left (some.before.record-count.ensures ∙ z)) _ _
-    found.allocate.ensures c.if3.true
+    law.flush_no_box σ _ _ _ _ _ c.valid.ensures (ap not c.if-not-valid.false) (λ z. c.if-record_count-eq0.false (c.record_count.ensures ∙ z)) _ _
+    c.allocate-next.ensures c.if-next-ne-ACCEPTED.true
 
 store-requires : tie.Need-store-requires
 store-requires c κs =
-    let enough = c.before.before.before in
-    let found = enough.before.before in
-    let some = counted found in
-    let yes = looked some.before in
     record {
-      valid = sym yes.before.valid.ensures ∙ eq-true_of_not-eq-false' yes.if1.left;
-      records = λ z. some.if2.left (some.before.record-count.ensures ∙ z);
-      asked = sym found.allocate.ensures.number_is ∙ omega (arith, enough.if3.false);
-      pointer_is = found.allocate.ensures.block_is (omega (arith, enough.if3.false));
+      valid = sym c.valid.ensures ∙ c.if-not-valid.false;
+      records = λ z. c.if-record_count-eq0.false (c.record_count.ensures ∙ z);
+      asked = sym c.allocate-next.ensures.number_is ∙ omega (arith, c.if-next-ne-ACCEPTED.false);
+      pointer_is = c.allocate-next.ensures.block_is (omega (arith, c.if-next-ne-ACCEPTED.false));
     }
 
-stored : tie.Need-returns-4
+stored : tie.Need-returns
 stored c =
-    let done = c.before.before.before.before.before.before in
-    let some = counted done.before.before.before.before.before.before in
-    let yes = looked some.before in
-    done.store.ensures ∙ sym (law.flush_handed σ _ _ _ _ _ yes.before.valid.ensures yes.if1.left)
+    c.store.ensures ∙ sym (law.flush_handed σ _ _ _ _ _ c.valid.ensures (ap not c.if-not-valid.false))
 
-pub flush-spec : {M : Type 1} → statement M
-flush-spec =
+pub flush_spec : {M : Type 1} → statement M
+flush_spec =
     tie.close
     (tie.spec
     (λ c κs. search rules)

@@ -1,6 +1,7 @@
 -- `versions::put` meets its contract: the first no, in order, then the number foreseen, and else the version stored. Assumes nothing.
+use mathlib.Core.Bool.{not}
 use borrow.Author.Rules.{rules}
-use mathlib.Core.Path.{sym, ◌∙◌}
+use mathlib.Core.Path.{ap, sym, ◌∙◌}
 use mathlib.Mathlib.Data.Bool.Basic.{eq-true_of_not-eq-false'}
 use mathlib.Core.List.{[]}
 use native.Mathlib.Omega.{arith}
@@ -10,80 +11,46 @@ use Rattle.versions.proofs.put.Statement.{statement}
 use Rattle.versions.proofs.put.Tie as tie
 
 -- the states on the way back: the state looked at, question 13 asked
-abbrev asked : tie.After-valid → tie.Else1
-asked c = c.before.before
+other_part : tie.Need-returns-then-part-gt-LAST_PART
+other_part c = law.other_part σ _ _ _ _ _ _ _ _ (omega (arith, c.if-part-gt-LAST_PART.true)) c.refused.ensures.0 c.refused.ensures.1
 
-abbrev looked : tie.After-allocate → tie.Else2
-looked c = c.before.before.before.before
-
-abbrev searched : tie.After-forecast → tie.Else3
-searched c = c.before.before.before.before
-
-other_part : tie.Need-returns
-other_part c = law.other_part σ _ _ _ _ _ _ _ _ (omega (arith, c.before.if1.true)) c.refused.ensures.0 c.refused.ensures.1
-
-no_state : tie.Need-returns-2
+no_state : tie.Need-returns-then-not-valid
 no_state c =
-    let seen = c.before.before in
-    law.no_state σ _ _ _ _ _ _ (omega (arith, (asked seen).if1.false)) _ seen.valid.ensures _ _ c.before.if2.true c.refused2.ensures.0
-    c.refused2.ensures.1
+    law.no_state σ _ _ _ _ _ _ (omega (arith, c.if-part-gt-LAST_PART.false)) _ c.valid.ensures _ _ (ap not c.if-not-valid.true) c.refused-then-not-valid.ensures.0
+    c.refused-then-not-valid.ensures.1
 
-allocate-requires : tie.Need-allocate-requires
+allocate-requires : tie.Need-allocate-next-requires
 allocate-requires c κs =
-    let yes = c.before.before.before in
-    sym yes.before.valid.ensures ∙ eq-true_of_not-eq-false' yes.if2.false
+    sym c.valid.ensures ∙ c.if-not-valid.false
 
-no_box : tie.Need-returns-3
+no_box : tie.Need-returns-then-next-ne-ACCEPTED
 no_box c =
-    let found = c.before.before.before in
-    let yes = looked found in
-    let seen = yes.before in
-    law.no_box σ _ _ _ _ _ _ (omega (arith, (asked seen).if1.left)) _ seen.valid.ensures yes.if2.left _ _ found.allocate.ensures
-    c.before.if3.true _ _ c.refused3.ensures.0 c.refused3.ensures.1
+    law.no_box σ _ _ _ _ _ _ (omega (arith, c.if-part-gt-LAST_PART.false)) _ c.valid.ensures (ap not c.if-not-valid.false) _ _ c.allocate-next.ensures
+    c.if-next-ne-ACCEPTED.true _ _ c.refused-then-next-ne-ACCEPTED.ensures.0 c.refused-then-next-ne-ACCEPTED.ensures.1
 
-forecast-requires : tie.Need-forecast-requires
+forecast-requires : tie.Need-forecast-number-requires
 forecast-requires c κs =
-    let enough = c.before.before.before in
-    let found = enough.before.before in
-    let yes = looked found in
-    let seen = yes.before in
-    law.put_is_ready σ _ _ _ _ _ [] (omega (arith, (asked seen).if1.left)) _ seen.valid.ensures yes.if2.left _ _ found.allocate.ensures
-    (omega (arith, enough.if3.false))
+    law.put_is_ready σ _ _ _ _ _ [] (omega (arith, c.if-part-gt-LAST_PART.false)) _ c.valid.ensures (ap not c.if-not-valid.false) _ _ c.allocate-next.ensures
+    (omega (arith, c.if-next-ne-ACCEPTED.false))
 
-no_command : tie.Need-returns-4
+no_command : tie.Need-returns-then-number-ne-ACCEPTED
 no_command c =
-    let told = c.before.before in
-    let yes = looked (searched told).before.before in
-    let seen = yes.before in
-    law.no_command σ _ _ _ _ _ _ (omega (arith, (asked seen).if1.left)) _ seen.valid.ensures yes.if2.left _ told.forecast.ensures
-    (λ z. omega (arith, c.before.if4.true)) _ _ c.refused4.ensures.0 c.refused4.ensures.1
+    law.no_command σ _ _ _ _ _ _ (omega (arith, c.if-part-gt-LAST_PART.false)) _ c.valid.ensures (ap not c.if-not-valid.false) _ c.forecast-number.ensures
+    (λ z. omega (arith, c.if-number-ne-ACCEPTED.true)) _ _ c.refused-then-number-ne-ACCEPTED.ensures.0 c.refused-then-number-ne-ACCEPTED.ensures.1
 
 store-requires : tie.Need-store-requires
 store-requires c κs =
-    let passes = c.before.before.before in
-    let told = passes.before in
-    let enough = searched told in
-    let found = enough.before.before in
-    let yes = looked found in
-    let seen = yes.before in
     record {
       put_ready =
-          law.put_is_ready σ _ _ _ _ _ [] (omega (arith, (asked seen).if1.left)) _ seen.valid.ensures yes.if2.left _ _ found.allocate.ensures
-          (omega (arith, enough.if3.left));
-      accepted = omega (arith, told.forecast.ensures, passes.if4.false);
+          law.put_is_ready σ _ _ _ _ _ [] (omega (arith, c.if-part-gt-LAST_PART.false)) _ c.valid.ensures (ap not c.if-not-valid.false) _ _ c.allocate-next.ensures
+          (omega (arith, c.if-next-ne-ACCEPTED.false));
+      accepted = omega (arith, c.forecast-number.ensures, c.if-number-ne-ACCEPTED.false);
     }
 
-stored : tie.Need-returns-5
+stored : tie.Need-returns
 stored c =
-    let done = c.before.before.before.before.before.before in
-    let passes = done.before.before.before.before in
-    let told = passes.before in
-    let enough = searched told in
-    let found = enough.before.before in
-    let yes = looked found in
-    let seen = yes.before in
-    law.put_stored σ _ _ _ _ _ _ (omega (arith, (asked seen).if1.left)) _ seen.valid.ensures yes.if2.left _ told.forecast.ensures
-    (omega (arith, passes.if4.false)) _ (found.allocate.ensures.block_is (omega (arith, enough.if3.left))) _ _ done.store.ensures
+    law.put_stored σ _ _ _ _ _ _ (omega (arith, c.if-part-gt-LAST_PART.false)) _ c.valid.ensures (ap not c.if-not-valid.false) _ c.forecast-number.ensures
+    (omega (arith, c.if-number-ne-ACCEPTED.false)) _ (c.allocate-next.ensures.block_is (omega (arith, c.if-next-ne-ACCEPTED.false))) _ _ c.store.ensures
 
 pub put_spec : {M : Type 1} → statement M
 put_spec =

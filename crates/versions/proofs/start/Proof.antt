@@ -9,22 +9,20 @@ use Rattle.versions.proofs.StartLaw.{wrong_size, no_lock, started}
 use Rattle.versions.proofs.start.Statement.{statement}
 use Rattle.versions.proofs.start.Tie as tie
 
-buffer-size : tie.Need-returns
-buffer-size c = wrong_size σ _ _ _ c.if1.true
+buffer-size : tie.Need-returns-then-buffer-ne-STATE_SIZE
+buffer-size c = wrong_size σ _ _ _ c.if-buffer-ne-STATE_SIZE.true
 
-lock-size : tie.Need-returns-2
+lock-size : tie.Need-returns-then-not-is_lock
 lock-size c =
-    no_lock σ _ _ _ (omega (arith, c.before.before.if1.false)) (sym c.before.is-lock.ensures ∙ eq-false_of_not-eq-true' c.if2.true)
+    no_lock σ _ _ _ (omega (arith, c.if-buffer-ne-STATE_SIZE.false)) (sym c.is_lock.ensures ∙ c.if-not-is_lock.true)
 
 start-requires : tie.Need-start-requires
-start-requires c κs = omega (arith, c.before.before.before.if1.false)
+start-requires c κs = omega (arith, c.if-buffer-ne-STATE_SIZE.false)
 
-stored : tie.Need-returns-3
+stored : tie.Need-returns
 stored c =
-    let made = c.before.before in
-    let last = made.before.before in
-    ap (started_of 0) made.start.ensures
-    ∙ started σ _ _ _ (omega (arith, last.before.before.if1.false)) (sym last.before.is-lock.ensures ∙ eq-true_of_not-eq-false' last.if2.false)
+    ap (started_of 0) c.start.ensures
+    ∙ started σ _ _ _ (omega (arith, c.if-buffer-ne-STATE_SIZE.false)) (sym c.is_lock.ensures ∙ c.if-not-is_lock.false)
 
 pub start_spec : {M : Type 1} → statement M
 start_spec = tie.close (tie.spec buffer-size (λ c κs. search rules) lock-size start-requires (λ c. search rules) stored)

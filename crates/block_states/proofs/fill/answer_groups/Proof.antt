@@ -87,10 +87,10 @@ answer-group-requires c κs =
 
 loop-again : tie.Need-loop-k-preserved invariant-loop decreases-loop
 loop-again c = (
-      omega (arith, c.loop-k-test.true),
-      filled_step σ (box c.before.before.before.before.before.before.before.before.before.before.before) _ _ _ _ _ _ c.requires c.loop-k.k c.loop-k-test.true _ _ _ _ _ _ _ _ c.loop-k.invariant.1
-          c.fetch-pages.ensures.1 (search rules) (ap (λ (n : ℕ). c.loop-k.pages + n) c.fetch-pages.ensures.0) refl c.answer_group.ensures,
-    )
+  omega (arith, c.loop-k-test.true),
+  filled_step σ (box c.before.before.before.before.before.before.before.before.before.before.before) _ _ _ _ _ _ c.requires c.loop-k.k c.loop-k-test.true _ _ _ _ _ _ _ _ c.loop-k.invariant.1
+      c.fetch-pages.ensures.1 (search rules) (ap (λ (n : ℕ). c.loop-k.pages + n) c.fetch-pages.ensures.0) refl c.answer_group.ensures,
+)
 
 same_length : tie.Need-shape_of-answer invariant-loop decreases-loop
 same_length c =

@@ -7,25 +7,24 @@ use Rattle.script_answers.proofs.printing.put_spaced.Statement.{statement}
 use Rattle.script_answers.proofs.printing.put_spaced.Tie as tie
 
 -- the states on the way back: the number put, the start
-abbrev put : tie.After-slice-known2 → tie.After-put
+abbrev put : tie.After-slice_known-2-1 → tie.After-put-end
 put c = c.before.before
 
-abbrev start : tie.After-put-arg → tie.Start
+abbrev start : tie.After-put-arg-1 → tie.Start
 start c = c.before.before
 
-put-requires : tie.Need-put-requires
-put-requires c κs = omega (arith, decimal_size_64 (start c).args.n (start c).ranges.n.fits)
+put-requires : tie.Need-put-end-requires
+put-requires c κs = omega (arith, decimal_size_64 c.args.n c.ranges.n.fits)
 
-spaced : (c : tie.After-slice-known2)
+spaced : (c : tie.After-slice_known-2-1)
     → let x = (start (put c).before).args in
-    Spaced x.out.now x.at x.n (put c).put.new.0 (put c).put.result
+    Spaced x.out.now x.at x.n (put c).put-end.new.out (put c).put-end.result
 spaced c =
-    let entry = start (put c).before in
-    spaced_put _ _ _ _ _ entry.fits.n.fits entry.pre (put c).put.ensures
+    spaced_put _ _ _ _ _ c.fits.n.fits c.requires c.put-end.ensures
 
 returns : tie.Need-returns
-returns c = ((spaced c).put.0, ((spaced c).put.1, omega (arith, (spaced c).within)))
+returns c = ((spaced c).put-end.0, ((spaced c).put-end.1, omega (arith, (spaced c).within)))
 
-pub put-spaced-spec : {M : Type 1} → statement M
-put-spaced-spec =
+pub put_spaced_spec : {M : Type 1} → statement M
+put_spaced_spec =
     tie.close (tie.spec put-requires (λ c. (spaced c).inside) (λ c. record { fits = omega (arith, (spaced c).within) }) (λ c. search rules) returns)

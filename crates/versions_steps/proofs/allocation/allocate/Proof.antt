@@ -12,36 +12,29 @@ use Rattle.versions_steps.proofs.allocation.allocate.Statement.{statement}
 use Rattle.versions_steps.proofs.allocation.allocate.Tie as tie
 
 -- where it starts, before the box is asked
-abbrev start : tie.After-refusal → tie.Start
+abbrev start : tie.After-refusal-number → tie.Start
 start c = c.before.before.before.before
 
-size : (c : tie.Else1) → length (start c.before).args.state.now ≡ state_size present
-size c = (facts present _ (start c.before).requires).size
+size : (c : tie.Else-number-ne-ACCEPTED) → length (start c.before).args.state.now ≡ state_size present
+size c = (facts present _ c.requires).size
 
-refused : tie.Need-returns
+refused : tie.Need-returns-then-number-ne-ACCEPTED
 refused c =
-    box_refused σ _ _ _ _ _ c.before.before.refusal.ensures _ _ c.before.if1.true c.refused.ensures.0 c.refused.ensures.1
+    box_refused σ _ _ _ _ _ c.refusal-number.ensures _ _ c.if-number-ne-ACCEPTED.true c.refused.ensures.0 c.refused.ensures.1
 
-two-requires : tie.Need-two-requires
+two-requires : tie.Need-two-found-requires
 two-requires c κs =
-    let yes = c.before.before in
-    box_valid σ _ _ _ yes.before.refusal.ensures (omega (arith, yes.if1.false))
+    box_valid σ _ _ _ c.refusal-number.ensures (omega (arith, c.if-number-ne-ACCEPTED.false))
 
-few : tie.Need-returns-2
+few : tie.Need-returns-then-not-found
 few c =
-    let searched = c.before.before.before in
-    let read = searched.before.before in
-    let yes = read.before in
-    too_few σ _ _ _ _ _ yes.before.refusal.ensures (omega (arith, yes.if1.false)) _ read.reserve.ensures _ searched.two.ensures.1
-    _ _ c.before.if2.true c.refused2.ensures.0 c.refused2.ensures.1
+    too_few σ _ _ _ _ _ c.refusal-number.ensures (omega (arith, c.if-number-ne-ACCEPTED.false)) _ c.reserve.ensures _ c.two-found.ensures.1
+    _ _ c.if-not-found.true c.refused-then-not-found.ensures.0 c.refused-then-not-found.ensures.1
 
-found : tie.Need-returns-3
+found : tie.Need-returns
 found c =
-    let searched = c.before.before in
-    let read = searched.before.before in
-    let yes = read.before in
-    enough σ _ _ _ _ _ yes.before.refusal.ensures (omega (arith, yes.if1.false)) _ read.reserve.ensures _ searched.two.ensures.1
-    _ _ c.if2.false searched.before.taken.ensures searched.two.ensures.0
+    enough σ _ _ _ _ _ c.refusal-number.ensures (omega (arith, c.if-number-ne-ACCEPTED.false)) _ c.reserve.ensures _ c.two-found.ensures.1
+    _ _ c.if-not-found.false c.taken.ensures c.two-found.ensures.0
 
 pub allocate_spec : {M : Type 1} → statement M
 allocate_spec =

@@ -13,51 +13,28 @@ use Rattle.versions_steps.proofs.log.store.Statement.{statement}
 use Rattle.versions_steps.proofs.log.store.Tie as tie
 
 -- the states on the way back: the order given, the reserve read, the lock read, the log block filled, the start
-abbrev start : tie.After-fill-log → tie.Start
-start c = c.before.before.before.before.before.before
-
-abbrev filled : tie.After-lock → tie.After-fill-log
-filled c = c.before.before.before
-
-abbrev locked : tie.After-reserve → tie.After-lock
-locked c = c.before.before
-
-abbrev reserved : tie.After-give → tie.After-reserve
-reserved c = c.before.before.before.before
-
 size : (c : tie.Start) → length c.args.state.now ≡ state_size present
 size c = (facts present _ c.requires.valid).size
 
-lock-requires : tie.Need-lock-requires
-lock-requires c κs = size (start c.before.before)
+lock-requires : tie.Need-lock-lock-requires
+lock-requires c κs = size c.before.before.before.before.before.before
 
-reserve-requires : tie.Need-reserve-requires
-reserve-requires c κs = size (start (filled c.before))
+reserve-requires : tie.Need-reserve-reserve-requires
+reserve-requires c κs = size c.before.before.before.before.before.before.before
 
-give-requires : tie.Need-give-requires
+give-requires : tie.Need-give-number-requires
 give-requires c κs =
-    let begun = start (filled (locked c.before.before.before)) in
-    order_ready σ _ (versions_in begun.args.state.now) _ _ begun.pre.asked
+    order_ready σ _ (versions_in c.args.state.now) _ _ c.requires.asked
 
-refused : tie.Need-returns
+refused : tie.Need-returns-then-number-ne-ACCEPTED
 refused c =
-    let given = c.before.before.before.before.before in
-    let reserve = reserved given in
-    let lock = locked reserve in
-    let fill = filled lock in
-    flush_refused σ _ _ _ _ _ _ _ _ _ _ (start fill).pre reserve.reserve.ensures lock.lock.ensures fill.fill-log.ensures
-    given.give.ensures (λ e. omega (arith, c.if1.true))
+    flush_refused σ _ _ _ _ _ _ _ _ _ _ c.requires c.reserve-reserve.ensures c.lock-lock.ensures c.fill_log.ensures
+    c.give-number.ensures (λ e. omega (arith, c.if-number-ne-ACCEPTED.true))
 
-stored : tie.Need-returns-2
+stored : tie.Need-returns
 stored c =
-    let logged = c.before.before in
-    let accepted = logged.before.before in
-    let given = accepted.before.before.before.before.before in
-    let reserve = reserved given in
-    let lock = locked reserve in
-    let fill = filled lock in
-    flush_stored σ _ _ _ _ _ _ _ _ _ _ (start fill).pre reserve.reserve.ensures lock.lock.ensures fill.fill-log.ensures
-    given.give.ensures (omega (arith, accepted.if1.false)) _ logged.log.ensures
+    flush_stored σ _ _ _ _ _ _ _ _ _ _ c.requires c.reserve-reserve.ensures c.lock-lock.ensures c.fill_log.ensures
+    c.give-number.ensures (omega (arith, c.if-number-ne-ACCEPTED.false)) _ c.log.ensures
 
 pub store_spec : {M : Type 1} → statement M
 store_spec =

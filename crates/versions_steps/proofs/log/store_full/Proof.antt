@@ -11,37 +11,22 @@ use Rattle.versions_steps.proofs.log.store_full.Statement.{statement}
 use Rattle.versions_steps.proofs.log.store_full.Tie as tie
 
 -- the states on the way back: the log block filled, the next reserve found, the reserve read, the start
-abbrev start : tie.After-reserve → tie.Start
-start c = c.before.before.before.before.before
-
-abbrev found : tie.After-fill-full-log → tie.After-next
-found c = c.before.before.before
-
-abbrev read : tie.After-next → tie.After-reserve
-read c = c.before.before.before
-
 size : (c : tie.Start) → length c.args.state.now ≡ state_size present
 size c = (facts present _ c.requires.valid).size
 
-reserve-requires : tie.Need-reserve-requires
-reserve-requires c κs = size c.before.before.before.before
+reserve-requires : tie.Need-reserve-reserve-requires
+reserve-requires c κs = size c.before.before.before
 
-lock-requires : tie.Need-lock-requires
-lock-requires c κs = size (start (read (found c.before.before)))
+lock-requires : tie.Need-lock-lock-requires
+lock-requires c κs = size c.before.before.before.before.before.before.before.before
 
 returns : tie.Need-returns
 returns c =
-    let entered = c.before.before in
-    let given = entered.before.before.before.before.before.before in
-    let locked = given.before.before.before.before in
-    let filled = locked.before.before.before in
-    let next = found filled in
-    let reserved = read next in
-    full_stored σ _ _ _ _ _ _ _ _ _ _ _ _ _ reserved.reserve.ensures locked.lock.ensures next.next.ensures
-    filled.fill-full-log.ensures given.give.ensures entered.enter-logged.ensures
+    full_stored σ _ _ _ _ _ _ _ _ _ _ _ _ _ c.reserve-reserve.ensures c.lock-lock.ensures c.next-pointer.ensures
+    c.fill_full_log.ensures c.give.ensures c.enter_logged.ensures
 
-pub store-full-spec : {M : Type 1} → statement M
-store-full-spec =
+pub store_full_spec : {M : Type 1} → statement M
+store_full_spec =
     tie.close
     (tie.spec reserve-requires (λ c κs. search rules) (λ c. search rules) (λ c κs. search rules) lock-requires (λ c. search rules)
     (λ c κs. search rules) (λ c κs. search rules) (λ c. search rules) (λ c. search rules) (λ c. search rules) returns)

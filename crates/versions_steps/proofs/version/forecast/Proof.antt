@@ -14,35 +14,31 @@ use Rattle.versions_steps.proofs.version.forecast.Statement.{statement}
 use Rattle.versions_steps.proofs.version.forecast.Tie as tie
 
 -- where it starts
-abbrev start : tie.After-shared-slice-known4 → tie.Start
+abbrev start : tie.After-shared_slice_known-4-1 → tie.Start
 start c = c.before.before.before.before
 
-size : (c : tie.After-shared-slice-known4) → length (start c).args.state.now ≡ state_size present
-size c = (facts present _ (start c).requires.valid).size
+size : (c : tie.After-shared_slice_known-4-1) → length (start c).args.state.now ≡ state_size present
+size c = (facts present _ c.requires.valid).size
 
 newest-requires : tie.Need-newest-requires
-newest-requires c κs = (size c.before, is_part σ _ _ _ _ _ (start c.before).requires _ c.lock.ensures _ refl)
+newest-requires c κs = (size c.before, is_part σ _ _ _ _ _ c.requires _ c.lock.ensures _ refl)
 
 forecast-requires : tie.Need-forecast-requires
 forecast-requires c κs =
-    let read = c.before.before.before in
-    is_ready σ _ _ _ _ _ (start read.before).requires _ read.lock.ensures _ c.reserve.ensures
+    is_ready σ _ _ _ _ _ c.requires _ c.lock.ensures _ c.reserve.ensures
 
 returns : tie.Need-returns
 unfolding Below
 returns c =
-    let counted = c.before.before in
-    let read = counted.before.before in
-    let known = read.before in
-    forecast_is σ _ _ _ _ _ (start known).requires _ read.lock.ensures _ c.before.reserve.ensures
+    forecast_is σ _ _ _ _ _ c.requires _ c.lock.ensures _ c.reserve.ensures
     (record {
-      memory = λ i. omega (arith, known.before.before.shared-slice-known2.given i);
-      disk = λ i. omega (arith, known.before.shared-slice-known3.given i);
+      memory = λ i. omega (arith, c.shared_slice_known-2-1.given i);
+      disk = λ i. omega (arith, c.shared_slice_known-3-1.given i);
     })
-    _ _ counted.before.newest.ensures _ (ap (λ (n : ℕ). eqb n (most_records present)) counted.record-count.ensures) _ c.forecast.ensures
+    _ _ c.newest.ensures _ (ap (λ (n : ℕ). eqb n (most_records present)) c.record_count.ensures) _ c.forecast.ensures
 
-pub forecast-spec : {M : Type 1} → statement M
-forecast-spec =
+pub forecast_spec : {M : Type 1} → statement M
+forecast_spec =
     tie.close
     (tie.spec
     (λ c κs. size c)

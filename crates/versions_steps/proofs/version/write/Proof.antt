@@ -7,28 +7,17 @@ use Rattle.versions_steps.proofs.version.write.Statement.{statement}
 use Rattle.versions_steps.proofs.version.write.Tie as tie
 
 -- the states on the way back: one to unfreeze, the first order given, the start
-abbrev start : tie.After-give → tie.Start
-start c = c.before.before.before.before.before.before
-
-abbrev gave : tie.Then1 → tie.After-give
-gave c = c.before.before.before.before.before
-
-give-requires-2 : tie.Need-give-requires-2
+give-requires-2 : tie.Need-give-requires-then-replaced-ne-NO_BLOCK
 give-requires-2 c κs =
-    let first = gave c.before.before.before in
-    second_ready σ _ _ _ _ _ _ (start first).pre _ _ first.give.ensures
+    second_ready σ _ _ _ _ _ _ c.requires _ _ c.give.ensures
 
-unfrozen : tie.Need-returns
+unfrozen : tie.Need-returns-then-replaced-ne-NO_BLOCK
 unfrozen c =
-    let second = c.before.before.before.before in
-    let replaces = second.before.before.before.before in
-    let first = gave replaces in
-    wrote_both σ _ _ _ _ _ _ (start first).pre _ _ first.give.ensures (λ e. omega (arith, replaces.if1.true)) _ _ second.give2.ensures
+    wrote_both σ _ _ _ _ _ _ c.requires _ _ c.give.ensures (λ e. omega (arith, c.if-replaced-ne-NO_BLOCK.true)) _ _ c.give-then-replaced-ne-NO_BLOCK.ensures
 
-written : tie.Need-returns-2
+written : tie.Need-returns-else-replaced-ne-NO_BLOCK
 written c =
-    let first = c.before.before.before.before.before in
-    wrote_first σ _ _ _ _ _ _ (start first).requires _ _ first.give.ensures (omega (arith, c.if1.false))
+    wrote_first σ _ _ _ _ _ _ c.requires _ _ c.give.ensures (omega (arith, c.if-replaced-ne-NO_BLOCK.false))
 
 pub write_spec : {M : Type 1} → statement M
 write_spec =
