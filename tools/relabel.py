@@ -126,7 +126,8 @@ def passed_on(text, of, place, lemmas, functions, c):
             if not found:
                 break
             start = at = found.end()
-            end = flatten.group_end(text, start) if text[start] == "(" else start + re.match(r"[\w'-]+(?:\.before)*", text[start:]).end()
+            end = flatten.group_end(text, start) if text[start] == "(" else start + re.match(r"[\w'-]+", text[start:]).end()
+            end += re.match(r"(?:\.before)*", text[end:]).end()
             if flatten.is_state(text[start:end], states, functions) and not text.startswith(".", end):
                 text = text[:start] + c + ".before" * steps + text[end:]
     for name in reversed(states[1:]):

@@ -14,6 +14,7 @@ ghost use Rattle.current_page.specs.Ready.{CurrentReady};
 use lockpage::Entry;
 
 // Copies the current page of a group into out. It answers 1, the number of pages read.
+#[tactic(auto, using(lockpage::proofs::GeometryLaw::present_proper, crate::proofs::CurrentLaw::page_held, crate::proofs::CurrentLaw::page_other))]
 pub fn fetch(memory: &[u8], disk: &[u8], group: u32, out: &mut [u8]) -> u32
     requires { CurrentReady present (box_at memory.now disk.now) group out.old }
     ensures { (result ≡ 1) × (out.new ≡ current_page present (box_at memory.now disk.now) group) }

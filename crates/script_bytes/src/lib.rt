@@ -1,6 +1,7 @@
 // A script byte by byte: one byte, the end of a line, the end of the input, and what each prints. The contracts cite the reader's definitions
 // in script_printout.
 #![tactic(auto)]
+
 mod texts;
 
 ghost use Rattle.std.specs.Prelude.{◌≡◌, ◌+◌, ◌≤◌, length};

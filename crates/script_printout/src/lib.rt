@@ -1,6 +1,7 @@
 // The printout of a script as definitions, specs/, and the theorem that a script read piece by piece prints it, proofs/. No function:
 // what runs is the crate script.
 #![tactic(auto)]
+
 use script_lines::Line;
 
 // What is being read: the header, of which so many bytes are read; a line of values; or nothing more.

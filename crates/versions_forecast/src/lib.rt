@@ -26,6 +26,7 @@ use versions_machine::NO_BLOCK;
 
 // Questions 8 to 10 of a command, by its group's count and its block's entry: the number of the first that says no, or 0. All are
 // answered first: they cost a few comparisons.
+#[tactic(auto, using(crate::proofs::StageLaw::no_8, crate::proofs::StageLaw::no_9, crate::proofs::StageLaw::no_10, crate::proofs::StageLaw::none_no))]
 fn order_refusal(count: u64, e: Entry, u: Update, time: u32) -> u32
     requires { time ≤ latest_time }
     ensures { result ≡ first_no (last_questions count u time e) }

@@ -89,6 +89,7 @@ fn newests_fit(state: &[u8]) -> bool
 }
 
 // Whether record i can be one.
+#[tactic(auto, using(crate::proofs::CheckLaw::no_part))]
 fn record_fits(state: &[u8], i: u32) -> bool
     requires { (length state.now ≡ state_size present) × (i < most_records present) }
     ensures { result ≡ is_record present (record_in state.now i) }

@@ -1,4 +1,6 @@
 -- `recovery::goes_on` meets its contract. Assumes nothing.
+use mathlib.Core.Path.{ap}
+use mathlib.Core.Bool.{not}
 use borrow.Author.Rules.{rules}
 use native.Mathlib.Omega.{arith}
 use Rattle.lockpage.specs.Geometry.{present}
@@ -9,39 +11,30 @@ use Rattle.recovery.proofs.WalkLaw.{stops_unkept, marks_cover, stops_earlier, go
 use Rattle.recovery.proofs.goes_on.Statement.{statement}
 use Rattle.recovery.proofs.goes_on.Tie as tie
 
-entry-requires : tie.Need-entry-requires
+entry-requires : tie.Need-entry-e-requires
 entry-requires c κs =
-    let ready = c.before.before.before.requires in
+    let ready = c.requires in
     ((facts σ _ ready.box.memory).size, has_group_of σ _ _ _ ready.box.disk ready.inside)
 
-returns : tie.Need-returns
+returns : tie.Need-returns-then-not-says_kept
 returns c walked are =
-    let asked = c.before in
-    let read = asked.before in
-    stops_unkept present _ _ _ _ _ read.before.before.before.before.requires.inside _ read.entry.ensures _ asked.says-kept.ensures
-    c.if1.true walked
+    stops_unkept present _ _ _ _ _ c.requires.inside _ c.entry-e.ensures _ c.says_kept.ensures
+    (ap not c.if-not-says_kept.true) walked
 
-returns-2 : tie.Need-returns-2
+returns-2 : tie.Need-returns-then-e-parent
 returns-2 c walked are =
-    let passed = c.before.before in
-    let asked = passed.before in
-    let read = asked.before in
-    stops_earlier present _ _ _ _ _ read.before.before.before.before.requires.inside _ read.entry.ensures _ asked.says-kept.ensures
-    passed.if1.false c.if2.true walked
+    stops_earlier present _ _ _ _ _ c.requires.inside _ c.entry-e.ensures _ c.says_kept.ensures
+    (ap not c.if-not-says_kept.false) c.if-e-parent.true walked
 
-is-marked-requires : tie.Need-is-marked-requires
-is-marked-requires c κs = omega (arith, marks_cover _ _ _ c.before.before.before.before.before.before.before.before.requires)
+is-marked-requires : tie.Need-is_marked-requires
+is-marked-requires c κs = omega (arith, marks_cover _ _ _ c.requires)
 
-returns-3 : tie.Need-returns-3
+returns-3 : tie.Need-returns
 returns-3 c walked are =
-    let later = c.before in
-    let passed = later.before.before in
-    let asked = passed.before in
-    let read = asked.before in
-    let ready = read.before.before.before.before.requires in
-    goes present _ _ _ _ _ ready.inside _ read.entry.ensures _ asked.says-kept.ensures passed.if1.false
-    (omega (arith, later.if2.false)) _ (marks_cover _ _ _ ready) _ c.is-marked.ensures walked are
+    let ready = c.requires in
+    goes present _ _ _ _ _ ready.inside _ c.entry-e.ensures _ c.says_kept.ensures (ap not c.if-not-says_kept.false)
+    (omega (arith, c.if-e-parent.false)) _ (marks_cover _ _ _ ready) _ c.is_marked.ensures walked are
 
-pub goes-on-spec : {M : Type 1} → statement M
-goes-on-spec =
+pub goes_on_spec : {M : Type 1} → statement M
+goes_on_spec =
     tie.close (tie.spec entry-requires (λ c κs. search rules) returns returns-2 is-marked-requires returns-3)

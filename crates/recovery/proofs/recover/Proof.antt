@@ -10,35 +10,31 @@ use Rattle.recovery.proofs.recover.Statement.{statement}
 use Rattle.recovery.proofs.recover.Tie as tie
 
 -- where it starts
-abbrev start : tie.After-refusal → tie.Start
-start c = c.before.before.before.before.before
+abbrev start : tie.After-refusal-number → tie.Start
+start c = c.before.before.before.before
 
-returns : tie.Need-returns
-returns c = refused present _ _ _ _ c.before.refusal.ensures _ _ c.if1.true
+returns : tie.Need-returns-then-number-ne-ACCEPTED
+returns c = refused present _ _ _ _ c.refusal-number.ensures _ _ c.if-number-ne-ACCEPTED.true
 
 -- all four have yes
-long : (c : tie.Else1) → length (start c.before).args.res.now ≡ result_size
-long c = result_length present _ _ _ _ c.before.refusal.ensures (omega (arith, c.if1.false))
+long : (c : tie.Else-number-ne-ACCEPTED) → length (start c.before).args.res.now ≡ result_size
+long c = result_length present _ _ _ _ c.refusal-number.ensures (omega (arith, c.if-number-ne-ACCEPTED.false))
 
 fill-requires : tie.Need-fill-requires
 fill-requires c κs = omega (arith, long c.before)
 
 walk-requires : tie.Need-walk-requires
 walk-requires c κs =
-    let filled = c.before.before.before in
-    let passed = filled.before.before in
     record {
-      box = box_valid present _ _ _ _ passed.before.refusal.ensures (omega (arith, passed.if1.false));
-      empty = result_cleared _ _ (long passed) filled.fill.ensures;
+      box = box_valid present _ _ _ _ c.refusal-number.ensures (omega (arith, c.if-number-ne-ACCEPTED.false));
+      empty = result_cleared _ _ (long c.before.before.before.before.before) c.fill.ensures;
     }
 
-returns-2 : tie.Need-returns-2
+returns-2 : tie.Need-returns
 returns-2 c =
-    let walked = c.before.before in
-    let passed = walked.before.before.before.before.before.before in
-    recovers present _ _ _ _ passed.before.refusal.ensures _ _ (omega (arith, passed.if1.false)) _ walked.walk.ensures
+    recovers present _ _ _ _ c.refusal-number.ensures _ _ (omega (arith, c.if-number-ne-ACCEPTED.false)) _ c.walk.ensures
 
-pub recover-spec : {M : Type 1} → statement M
-recover-spec =
+pub recover_spec : {M : Type 1} → statement M
+recover_spec =
     tie.close
     (tie.spec (λ c κs. search rules) (λ c. search rules) returns fill-requires walk-requires (λ c. search rules) returns-2)

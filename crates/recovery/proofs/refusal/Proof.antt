@@ -6,18 +6,16 @@ use Rattle.recovery.proofs.RefusalLaw.{box_refused, length_wrong, accepted}
 use Rattle.recovery.proofs.refusal.Statement.{statement}
 use Rattle.recovery.proofs.refusal.Tie as tie
 
-returns : tie.Need-returns
-returns c = box_refused present _ _ _ _ c.before.refusal.ensures c.if1.true
+returns : tie.Need-returns-then-number-ne-ACCEPTED
+returns c = box_refused present _ _ _ _ c.refusal-number.ensures c.if-number-ne-ACCEPTED.true
 
-returns-2 : tie.Need-returns-2
+returns-2 : tie.Need-returns-then-res-ne-RESULT_SIZE
 returns-2 c =
-    let passed = c.before in
-    length_wrong present _ _ _ _ passed.before.refusal.ensures (omega (arith, passed.if1.false)) (λ z. omega (arith, c.if2.true))
+    length_wrong present _ _ _ _ c.refusal-number.ensures (omega (arith, c.if-number-ne-ACCEPTED.false)) (λ z. omega (arith, c.if-res-ne-RESULT_SIZE.true))
 
-returns-3 : tie.Need-returns-3
+returns-3 : tie.Need-returns
 returns-3 c =
-    let passed = c.before in
-    accepted present _ _ _ _ passed.before.refusal.ensures (omega (arith, passed.if1.false)) (omega (arith, c.if2.false))
+    accepted present _ _ _ _ c.refusal-number.ensures (omega (arith, c.if-number-ne-ACCEPTED.false)) (omega (arith, c.if-res-ne-RESULT_SIZE.false))
 
-pub refusal-spec : {M : Type 1} → statement M
-refusal-spec = tie.close (tie.spec (λ c κs. search rules) returns returns-2 returns-3)
+pub refusal_spec : {M : Type 1} → statement M
+refusal_spec = tie.close (tie.spec (λ c κs. search rules) returns returns-2 returns-3)

@@ -10,4 +10,4 @@ returns c =
 
 pub get_page_spec : {M : Type 1} → statement M
 get_page_spec =
-    tie.close (tie.spec (λ c κs. search rules) (λ c. search rules) (λ c. search rules) (λ c κs. search rules) returns)
+    tie.close (tie.spec (λ c κs. search rules) (λ c κs. search rules) returns)

@@ -10,24 +10,15 @@ use Rattle.script_answers.proofs.run.Statement.{statement}
 use Rattle.script_answers.proofs.run.Tie as tie
 
 -- the states on the way back: no proof asked for; the page got, a proof asked for; the kind found
-abbrev none : tie.After-send-arg-then-proof_length-eq0-1 → tie.Then-proof_length-eq0
-none c = c.before.before
-
-abbrev got : tie.After-send-arg-2-1 → tie.After-get_page
-got c = c.before
-
-abbrev some : tie.After-get_page → tie.Else-proof_length-eq0
-some c = c.before.before.before.before
-
 -- the content is no longer than a block
 fits : (c : tie.After-content_length-n) → c.content_length-n.result ≤ block_size present
 fits c = within c.kind_numbered-k.result _ c.content_length-n.ensures
 
 share : tie.Need-slice_bounds-content-end
-share c = fits (none c).before.before
+share c = fits c.before.before.before.before
 
 count : tie.Need-slice_bounds-send-end
-count c = content_size _ _ (fits (none c.before).before.before)
+count c = content_size _ _ (fits c.before.before.before.before.before)
 
 plain : tie.Need-returns-then-proof_length-eq0
 plain c =
@@ -40,12 +31,12 @@ unfolding buffer repeated
 get-page-requires c κs = search rules
 
 share-2 : tie.Need-slice_bounds-content-end-2
-share-2 c = fits (some (got c)).before.before
+share-2 c = fits c.before.before.before.before.before.before.before.before
 
-count-2 : tie.Need-slice_bounds-send-end-3
-count-2 c = content_size _ _ (fits (some (got c.before)).before.before)
+count-2 : tie.Need-slice_bounds-send-end-2
+count-2 c = content_size _ _ (fits c.before.before.before.before.before.before.before.before.before)
 
-count-3 : tie.Need-slice-aggregate-send-4
+count-3 : tie.Need-slice_bounds-send-end-3
 count-3 c = got_size _ _ c.get_page.ensures.1
 
 with-page : tie.Need-returns
@@ -58,5 +49,5 @@ with-page c =
 pub run_spec : {M : Type 1} → statement M
 run_spec =
     tie.close
-    (tie.spec (λ c κs. search rules) (λ c. search rules) (λ c κs. search rules) (λ c κs. search rules) share count (λ c. search rules)
+    (tie.spec (λ c κs. search rules) (λ c. search rules) (λ c κs. search rules) (λ c κs. search rules) share count
     (λ c κs. search rules) plain get-page-requires share-2 count-2 count-3 (λ c κs. search rules) with-page)

@@ -7,19 +7,17 @@ use Rattle.script_printout.proofs.PlaceLaw.{prints_as_on, prints_none_on}
 use Rattle.script_bytes.proofs.end_body.Statement.{statement}
 use Rattle.script_bytes.proofs.end_body.Tie as tie
 
-none : tie.Need-returns
+none : tie.Need-returns-then-is_blank
 none c =
-    let x = c.before.before.before.args in
+    let x = c.args in
     prints_none_on _ _ x.out.now 0 _ (box_of x.memory.now x.disk.now) refl refl
-    (end_blank x.reader _ x.line (sym c.before.is-blank.ensures ∙ c.if1.true))
+    (end_blank x.reader _ x.line (sym c.is_blank.ensures ∙ c.if-is_blank.true))
 
-line : tie.Need-returns-2
+line : tie.Need-returns
 line c =
-    let ended = c.before.before in
-    let test = ended.before.before.before.before in
-    let x = test.before.before.before.args in
-    prints_as_on _ _ x.out.now 0 _ _ _ ended.end_line.ensures
-    (sym (end_line x.reader _ x.line (sym test.before.is-blank.ensures ∙ test.if1.false)))
+    let x = c.args in
+    prints_as_on _ _ x.out.now 0 _ _ _ c.end_line.ensures
+    (sym (end_line x.reader _ x.line (sym c.is_blank.ensures ∙ c.if-is_blank.false)))
 
-pub end-body-spec : {M : Type 1} → statement M
-end-body-spec = tie.close (tie.spec (λ c κs. search rules) none (λ c κs. search rules) (λ c. search rules) line)
+pub end_body_spec : {M : Type 1} → statement M
+end_body_spec = tie.close (tie.spec (λ c κs. search rules) none (λ c κs. search rules) (λ c. search rules) line)

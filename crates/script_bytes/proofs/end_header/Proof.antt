@@ -8,25 +8,21 @@ use Rattle.script_printout.proofs.PlaceLaw.{prints_as, prints_heading}
 use Rattle.script_bytes.proofs.end_header.Statement.{statement}
 use Rattle.script_bytes.proofs.end_header.Tie as tie
 
-short : tie.Need-returns
+short : tie.Need-returns-then-k-ne-HEADER_SIZE
 short c =
-    let stopped = c.before.before in
-    let test = stopped.before.before in
-    let x = test.before.before.args in
-    prints_as _ _ x.out.now x.at _ _ stopped.stop.ensures
-    (λ s. sym (header_short x.number x.k s (λ e. test.if1.true (e ∙ header_length))))
+    let x = c.args in
+    prints_as _ _ x.out.now x.at _ _ c.stop.ensures
+    (λ s. sym (header_short x.number x.k s (λ e. c.if-k-ne-HEADER_SIZE.true (e ∙ header_length))))
 
-put-heading-requires : tie.Need-put-heading-requires
-put-heading-requires c κs = omega (arith, heading_size, c.before.before.before.requires)
+put-heading-requires : tie.Need-put_heading-end-requires
+put-heading-requires c κs = omega (arith, heading_size, c.requires)
 
-whole : tie.Need-returns-2
+whole : tie.Need-returns
 whole c =
-    let put = c.before.before.before in
-    let test = put.before.before in
-    let x = test.before.before.args in
-    prints_heading x.number x.k x.out.now x.at _ _ (omega (arith, test.if1.false, header_length)) c.reader-behind.ensures
-    put.put-heading.ensures
+    let x = c.args in
+    prints_heading x.number x.k x.out.now x.at _ _ (omega (arith, c.if-k-ne-HEADER_SIZE.false, header_length)) c.reader_behind.ensures
+    c.put_heading-end.ensures
 
-pub end-header-spec : {M : Type 1} → statement M
-end-header-spec =
+pub end_header_spec : {M : Type 1} → statement M
+end_header_spec =
     tie.close (tie.spec (λ c κs. search rules) (λ c. search rules) short put-heading-requires (λ c κs. search rules) (λ c. search rules) whole)

@@ -7,33 +7,26 @@ use Rattle.script_printout.proofs.PlaceLaw.{prints_on, prints_as_on, prints_none
 use Rattle.script_bytes.proofs.read_body.Statement.{statement}
 use Rattle.script_bytes.proofs.read_body.Tie as tie
 
-ends : tie.Need-returns
+ends : tie.Need-returns-then-byte-eq-NEWLINE
 ends c =
-    let ended = c.before.before in
-    let test = ended.before.before.before.before in
-    let x = test.before.before.args in
-    prints_as_on _ _ x.out.now x.at _ _ _ ended.end_line.ensures
-    (sym (body_newline x.number x.line (box_of x.memory.now x.disk.now) x.byte test.if1.true))
+    let x = c.args in
+    prints_as_on _ _ x.out.now x.at _ _ _ c.end_line.ensures
+    (sym (body_newline x.number x.line (box_of x.memory.now x.disk.now) x.byte c.if-byte-eq-NEWLINE.true))
 
-going : tie.Need-returns-2
+going : tie.Need-returns-in-Going
 going c =
-    let found = c.before in
-    let read = found.before.before in
-    let x = read.before.before.before.args in
+    let x = c.args in
     prints_none_on _ _ x.out.now x.at _ (box_of x.memory.now x.disk.now) refl refl
-    (body_going x.number x.line _ _ x.byte read.before.if1.false (sym read.after-byte.ensures ∙ found.next.given.1))
+    (body_going x.number x.line _ _ x.byte c.if-byte-eq-NEWLINE.false (sym c.after_byte.ensures ∙ c.in-Going.is))
 
-wrong : tie.Need-returns-3
+wrong : tie.Need-returns-in-Wrong
 wrong c =
-    let stopped = c.before.before in
-    let told = stopped.before.before in
-    let read = told.before.before in
-    let x = read.before.before.before.args in
-    prints_on _ _ x.out.now x.at _ (box_of x.memory.now x.disk.now) _ stopped.stop.ensures
-    (sym (body_wrong x.number x.line _ x.byte read.before.if1.false (sym read.after-byte.ensures ∙ told.enum_told.given.1)))
+    let x = c.args in
+    prints_on _ _ x.out.now x.at _ (box_of x.memory.now x.disk.now) _ c.stop.ensures
+    (sym (body_wrong x.number x.line _ x.byte c.if-byte-eq-NEWLINE.false (sym c.after_byte.ensures ∙ c.in-Wrong.is)))
 
-pub read-body-spec : {M : Type 1} → statement M
-read-body-spec =
+pub read_body_spec : {M : Type 1} → statement M
+read_body_spec =
     tie.close
     (tie.spec (λ c κs. search rules) (λ c. search rules) ends (λ c κs. search rules) (λ c. search rules) (λ c. search rules)
     (λ c κs. search rules) going (λ c. search rules) wrong)

@@ -8,7 +8,7 @@ use Rattle.script_bytes.proofs.reader_behind.Statement.{statement}
 use Rattle.script_bytes.proofs.reader_behind.Tie as tie
 
 returns : tie.Need-returns
-returns c = ap₂ (λ n (l : Line). reader_of n (Body l)) c.next-number.ensures c.before.blank.ensures
+returns c = ap₂ (λ n (l : Line). reader_of n (Body l)) c.next_number.ensures c.blank-blank.ensures
 
-pub reader-behind-spec : {M : Type 1} → statement M
-reader-behind-spec = tie.close (tie.spec (λ c. search rules) (λ c. search rules) returns)
+pub reader_behind_spec : {M : Type 1} → statement M
+reader_behind_spec = tie.close (tie.spec (λ c. search rules) (λ c. search rules) returns)

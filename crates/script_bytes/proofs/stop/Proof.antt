@@ -7,15 +7,13 @@ use Rattle.script_printout.proofs.PlaceLaw.{prints_stop}
 use Rattle.script_bytes.proofs.stop.Statement.{statement}
 use Rattle.script_bytes.proofs.stop.Tie as tie
 
-put-bad-line-requires : tie.Need-put-bad-line-requires
+put-bad-line-requires : tie.Need-put_bad_line-end-requires
 put-bad-line-requires c κs =
-    let start = c.before.before in
-    omega (arith, bad_line_size start.args.number start.ranges.number.fits, start.requires)
+    omega (arith, bad_line_size c.args.number c.ranges.number.fits, c.requires)
 
 returns : tie.Need-returns
 returns c =
-    let start = c.before.before.before.before.before in
-    prints_stop start.args.number start.args.out.now start.args.at _ _ start.ranges.number.fits refl c.before.before.put-bad-line.ensures
+    prints_stop c.args.number c.args.out.now c.args.at _ _ c.ranges.number.fits refl c.put_bad_line-end.ensures
 
-pub stop-spec : {M : Type 1} → statement M
-stop-spec = tie.close (tie.spec put-bad-line-requires (λ c. search rules) returns)
+pub stop_spec : {M : Type 1} → statement M
+stop_spec = tie.close (tie.spec put-bad-line-requires (λ c. search rules) returns)

@@ -31,34 +31,34 @@ abbrev turn : tie.After-is_newest invariant-loop decreases-loop → tie.In-loop-
 turn c = c.before.before
 
 abbrev state : tie.In-loop-i invariant-loop decreases-loop → List ℕ
-state c = c.before.before.before.args.state.now
+state c = c.args.state.now
 
 says : (c : tie.After-is_newest invariant-loop decreases-loop) → c.is_newest.result ≡ fits (state (turn c)) ((turn c).before.loop-i.i - 1)
 says c =
-    let inv = (turn c).before.loop-i.invariant in
-    newest_looked _ _ _ _ (omega (arith, (turn c).loop-i-test.true, inv.0)) c.before.newest.ensures c.is_newest.ensures
+    let inv = c.loop-i.invariant in
+    newest_looked _ _ _ _ (omega (arith, c.loop-i-test.true, inv.0)) c.newest.ensures c.is_newest.ensures
 
 loop-again : tie.Need-loop-i-preserved-then-not-is_newest invariant-loop decreases-loop
 loop-again c =
     let test = turn c.before in
-    let inv = test.before.loop-i.invariant in (
-      omega (arith, test.loop-i-test.true, inv.0),
-      all_no (λ k. k) (fits (state test)) parts _ (omega (arith, test.loop-i-test.true, inv.0))
+    let inv = c.loop-i.invariant in (
+      omega (arith, c.loop-i-test.true, inv.0),
+      all_no (λ k. k) (fits (state test)) parts _ (omega (arith, c.loop-i-test.true, inv.0))
           (sym (says c.before) ∙ c.if-not-is_newest.true),
     )
 
 loop-again-2 : tie.Need-loop-i-preserved invariant-loop decreases-loop
 loop-again-2 c =
     let test = turn c.before in
-    let inv = test.before.loop-i.invariant in (
-      omega (arith, test.loop-i-test.true, inv.0),
-      all_yes (λ k. k) (fits (state test)) parts _ _ (omega (arith, test.loop-i-test.true))
-          (omega (arith, test.loop-i-test.true, inv.0)) _ inv.1 (sym (says c.before) ∙ c.if-not-is_newest.false),
+    let inv = c.loop-i.invariant in (
+      omega (arith, c.loop-i-test.true, inv.0),
+      all_yes (λ k. k) (fits (state test)) parts _ _ (omega (arith, c.loop-i-test.true))
+          (omega (arith, c.loop-i-test.true, inv.0)) _ inv.1 (sym (says c.before) ∙ c.if-not-is_newest.false),
     )
 
 returns : tie.Need-returns invariant-loop decreases-loop
 returns c =
-    let inv = c.before.loop-i.invariant in
+    let inv = c.loop-i.invariant in
     newests_looked _ _ (all_counted_down (λ k. k) (fits _) parts _ (omega (arith, c.loop-i-test.false)) _ inv.1)
 
 pub newests_fit_spec : {M : Type 1} → statement M

@@ -27,25 +27,23 @@ loop-holds c = (omega arith, all_counted (λ k. k) (fits _) _ _ refl)
 
 loop-again : tie.Need-loop-i-preserved-then-not-record_fits invariant-loop decreases-loop
 loop-again c =
-    let test = c.before.before in
-    let inv = test.before.loop-i.invariant in (
-      omega (arith, test.loop-i-test.true, inv.0),
-      all_no (λ k. k) (fits _) _ _ (omega (arith, test.loop-i-test.true, inv.0))
-          (sym c.before.record_fits.ensures ∙ c.if-not-record_fits.true),
+    let inv = c.loop-i.invariant in (
+      omega (arith, c.loop-i-test.true, inv.0),
+      all_no (λ k. k) (fits _) _ _ (omega (arith, c.loop-i-test.true, inv.0))
+          (sym c.record_fits.ensures ∙ c.if-not-record_fits.true),
     )
 
 loop-again-2 : tie.Need-loop-i-preserved invariant-loop decreases-loop
 loop-again-2 c =
-    let test = c.before.before in
-    let inv = test.before.loop-i.invariant in (
-      omega (arith, test.loop-i-test.true, inv.0),
-      all_yes (λ k. k) (fits _) _ _ _ (omega (arith, test.loop-i-test.true)) (omega (arith, test.loop-i-test.true, inv.0)) _ inv.1
-          (sym c.before.record_fits.ensures ∙ c.if-not-record_fits.false),
+    let inv = c.loop-i.invariant in (
+      omega (arith, c.loop-i-test.true, inv.0),
+      all_yes (λ k. k) (fits _) _ _ _ (omega (arith, c.loop-i-test.true)) (omega (arith, c.loop-i-test.true, inv.0)) _ inv.1
+          (sym c.record_fits.ensures ∙ c.if-not-record_fits.false),
     )
 
 returns : tie.Need-returns invariant-loop decreases-loop
 returns c =
-    let inv = c.before.loop-i.invariant in
+    let inv = c.loop-i.invariant in
     records_looked _ _ _ (all_counted_down (λ k. k) (fits _) _ _ (omega (arith, c.loop-i-test.false)) _ inv.1)
 
 pub records_fit_spec : {M : Type 1} → statement M

@@ -9,20 +9,18 @@ use Rattle.recovery.proofs.RecordsLaw.{kept_inside, kept_outside}
 use Rattle.recovery.proofs.records.is_kept.Statement.{statement}
 use Rattle.recovery.proofs.records.is_kept.Tie as tie
 
-returns : tie.Need-returns
-returns c = kept_outside present _ _ _ _ c.before.before.before.requires.end_is _ (omega (arith, c.if1.true))
+returns : tie.Need-returns-then-block-end
+returns c = kept_outside present _ _ _ _ c.requires.end_is _ (omega (arith, c.if-block-end.true))
 
 entry-requires : tie.Need-entry-requires
 entry-requires c κs =
-    let ready = c.before.before.before.requires in
+    let ready = c.requires in
     ((facts σ _ ready.box.memory).size, has_group_of σ _ _ _ ready.box.disk (omega (arith, ready.end_is)))
 
-returns-2 : tie.Need-returns-2
+returns-2 : tie.Need-returns
 returns-2 c =
-    let read = c.before in
-    let inside = read.before in
-    kept_inside present _ _ _ _ inside.before.before.before.requires.end_is _ (omega (arith, inside.if1.false)) _
-    read.entry.ensures _ c.says-kept.ensures
+    kept_inside present _ _ _ _ c.requires.end_is _ (omega (arith, c.if-block-end.false)) _
+    c.entry.ensures _ c.says_kept.ensures
 
-pub is-kept-spec : {M : Type 1} → statement M
-is-kept-spec = tie.close (tie.spec returns entry-requires (λ c κs. search rules) returns-2)
+pub is_kept_spec : {M : Type 1} → statement M
+is_kept_spec = tie.close (tie.spec returns entry-requires (λ c κs. search rules) returns-2)

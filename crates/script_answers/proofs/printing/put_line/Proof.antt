@@ -35,7 +35,7 @@ line c =
 
 add-result : tie.Need-overflow_add-result
 add-result c =
-    record { fits = omega (arith, (line c.before.before).within, c.requires, c.good) }
+    record { fits = omega (arith, (line c.before.before).within, c.requires, c.well_formed) }
 
 returns : tie.Need-returns
 returns c =

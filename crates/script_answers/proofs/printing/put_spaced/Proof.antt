@@ -20,10 +20,10 @@ spaced : (c : tie.After-slice_known-2-1)
     → let x = (start (put c).before).args in
     Spaced x.out.now x.at x.n (put c).put-end.new.out (put c).put-end.result
 spaced c =
-    spaced_put _ _ _ _ _ c.fits.n.fits c.requires c.put-end.ensures
+    spaced_put _ _ _ _ _ c.ranges.n.fits c.requires c.put-end.ensures
 
 returns : tie.Need-returns
-returns c = ((spaced c).put-end.0, ((spaced c).put-end.1, omega (arith, (spaced c).within)))
+returns c = ((spaced c).put.0, ((spaced c).put.1, omega (arith, (spaced c).within)))
 
 pub put_spaced_spec : {M : Type 1} → statement M
 put_spaced_spec =

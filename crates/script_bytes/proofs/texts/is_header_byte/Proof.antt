@@ -5,9 +5,9 @@ use Rattle.script_printout.proofs.TextLaw.{header_beyond, header_within}
 use Rattle.script_bytes.proofs.texts.is_header_byte.Statement.{statement}
 use Rattle.script_bytes.proofs.texts.is_header_byte.Tie as tie
 
-within : tie.Need-returns-2
+within : tie.Need-returns
 unfolding header
-within c = header_within _ _ c.before.if1.false
+within c = header_within _ _ c.if-k-ge-HEADER_SIZE.false
 
-pub is-header-byte-spec : {M : Type 1} → statement M
-is-header-byte-spec = tie.close (tie.spec (λ c. header_beyond _ _ c.if1.true) (λ c. search rules) within)
+pub is_header_byte_spec : {M : Type 1} → statement M
+is_header_byte_spec = tie.close (tie.spec (λ c. header_beyond _ _ c.if-k-ge-HEADER_SIZE.true) (λ c. search rules) within)

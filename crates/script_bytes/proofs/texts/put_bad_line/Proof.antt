@@ -9,33 +9,21 @@ use Rattle.script_bytes.proofs.texts.put_bad_line.Statement.{statement}
 use Rattle.script_bytes.proofs.texts.put_bad_line.Tie as tie
 
 -- the states on the way back: the number put, the text copied, the start
-abbrev put : tie.After-slice-known3 → tie.After-put
-put c = c.before.before
-
-abbrev copied : tie.After-put → tie.After-out
-copied c = c.before.before.before
-
-abbrev start : tie.After-out → tie.Start
-start c = c.before.before.before.before.before
-
 -- behind the number
-rest : (c : tie.After-slice-known3)
-    → let x = (start (copied (put c))).args in
-    Rest x.out.now x.at x.n (put c).put.new.0 (put c).put.result
+rest : (c : tie.After-slice_known-3-1)
+    → Rest c.args.out.now c.args.at c.args.n c.put-end.new.out c.put-end.result
 unfolding bad
 rest c =
-    let text = copied (put c) in
-    bad_line_put _ _ _ _ _ _ (start text).pre text.before.copy.ensures (put c).put.ensures
+    bad_line_put _ _ _ _ _ _ c.requires c.copy.ensures c.put-end.ensures
 
-pub put-bad-line-spec : {M : Type 1} → statement M
-put-bad-line-spec =
+pub put_bad_line_spec : {M : Type 1} → statement M
+put_bad_line_spec =
     tie.close
     (tie.spec
+    (λ c κs. (omega arith, omega (arith, bad_line_length c.args.n)))
     (λ c. search rules)
-    (λ c κs. (omega arith, omega (arith, bad_line_length c.before.before.before.args.n)))
-    (λ c. search rules)
-    (λ c κs. omega (arith, bad_line_length (start c.before.before).args.n))
+    (λ c κs. omega (arith, bad_line_length c.args.n))
     (λ c. (rest c).inside)
-    (λ c. record { fits = omega (arith, (rest c).ranges) })
-    (λ c. simp length-set (c.before.out2.given ∙ (copied (put c)).out.given))
+    (λ c. record { fits = omega (arith, (rest c).fits) })
+    (λ c. simp length-set (c.out-2-1.given ∙ c.out-1.given))
     (λ c. (rest c).put))

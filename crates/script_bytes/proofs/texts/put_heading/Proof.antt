@@ -8,13 +8,12 @@ use Rattle.script_bytes.proofs.texts.put_heading.Tie as tie
 
 returns : tie.Need-returns
 unfolding heading
-returns c = heading_put _ _ _ c.before.before.copy.ensures
+returns c = heading_put _ _ _ c.copy.ensures
 
-pub put-heading-spec : {M : Type 1} → statement M
-put-heading-spec =
+pub put_heading_spec : {M : Type 1} → statement M
+put_heading_spec =
     tie.close
     (tie.spec
-    (λ c. search rules)
     (λ c κs. (omega arith, omega (arith, heading_length)))
     (λ c. search rules)
     (λ c. search rules)
