@@ -1,6 +1,7 @@
 // The script program's library: a script is read piece by piece, and the pieces print what script_printout's definitions say of the
 // whole. The caller keeps the reader and the box between the pieces, and reads and writes the descriptors.
 #![tactic(auto)]
+
 ghost use Rattle.std.specs.Prelude.{◌≡◌, ◌≤◌, length};
 ghost use Rattle.machine.specs.Call.{box_at};
 ghost use Rattle.script_printout.specs.Printout.{script_box};

@@ -3,6 +3,7 @@
 // store's by the definitions of versions_bytes, recovery's by those of recovery_machine, the migration's by those of migration_machine, the
 // others by those of machine.
 #![tactic(auto)]
+
 ghost use Rattle.std.specs.Prelude.{◌≡◌};
 ghost use Rattle.lockpage.specs.Geometry.{base, present};
 ghost use Rattle.machine.specs.Step.{step};
@@ -126,13 +127,7 @@ pub fn sockjade_versions_block(state: &[u8], part: u32) -> u64
 
 // The parts that the log on the disk has by a point in time, as a box shows them at another: its number, with the result as document 02
 // has it; where the number is not 0, no byte changed.
-pub fn sockjade_recover(
-    memory: &[u8],
-    disk: &[u8],
-    point: u32,
-    time: u32,
-    res: &mut [u8],
-) -> u32
+pub fn sockjade_recover(memory: &[u8], disk: &[u8], point: u32, time: u32, res: &mut [u8]) -> u32
     ensures { recovery_at result res.new
         ≡ recover present (whole_box present (groups present memory.now)) (box_at memory.now disk.now) point time
         res.old }
@@ -141,12 +136,7 @@ pub fn sockjade_recover(
 }
 
 // Formats a box: 0, with memory and disk as document 01 has it; where the number is not 0, no byte changed.
-pub fn sockjade_format(
-    memory: &mut [u8],
-    disk: &mut [u8],
-    groups: u32,
-    salt: &[u8],
-) -> u32
+pub fn sockjade_format(memory: &mut [u8], disk: &mut [u8], groups: u32, salt: &[u8]) -> u32
     ensures { format_outcome_at result memory.new disk.new
         ≡ format present (box_at memory.old disk.old) groups salt.now }
 {

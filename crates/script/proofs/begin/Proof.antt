@@ -9,8 +9,8 @@ use Rattle.script.proofs.begin.Tie as tie
 returns : tie.Need-returns
 unfolding repeated
 returns c =
-    let x = c.before.before.before.before.args in
+    let x = c.args in
     (refl, script_box_by x.memory.now x.disk.now _ _ _ c.format.ensures)
 
-pub begin-spec : {M : Type 1} → statement M
-begin-spec = tie.close (tie.spec (λ c. search rules) (λ c κs. search rules) returns)
+pub begin_spec : {M : Type 1} → statement M
+begin_spec = tie.close (tie.spec (λ c. search rules) (λ c κs. search rules) returns)

@@ -4,14 +4,12 @@ use Rattle.sockjade.proofs.DigestLaw.{refused_input, refused_out, digested}
 use Rattle.sockjade.proofs.sockjade_digest.Statement.{statement}
 use Rattle.sockjade.proofs.sockjade_digest.Tie as tie
 
-accepted : tie.Need-returns-3
+accepted : tie.Need-returns
 accepted c =
-    let called = c.before.before in
-    let asked = called.before.before in
-    digested _ _ _ asked.before.if1.false asked.if2.false called.digest.ensures
+    digested _ _ _ c.if-input-gt-LONGEST_INPUT.false c.if-out-ne-DIGEST_SIZE.false c.digest.ensures
 
-pub sockjade-digest-spec : {M : Type 1} → statement M
-sockjade-digest-spec =
+pub sockjade_digest_spec : {M : Type 1} → statement M
+sockjade_digest_spec =
     tie.close
-    (tie.spec (λ c. refused_input _ _ c.if1.true) (λ c. refused_out _ _ c.before.if1.false c.if2.true)
+    (tie.spec (λ c. refused_input _ _ c.if-input-gt-LONGEST_INPUT.true) (λ c. refused_out _ _ c.if-input-gt-LONGEST_INPUT.false c.if-out-ne-DIGEST_SIZE.true)
     (λ c κs. search rules) (λ c. search rules) accepted)

@@ -6,8 +6,8 @@ use Rattle.sockjade.proofs.sockjade_states.Tie as tie
 
 returns : tie.Need-returns
 returns c =
-    let halves = c.two-numbers.ensures in
-    of_query _ _ _ _ halves.0 halves.1 _ _ _ c.before.before.before.before.before.states.ensures
+    let halves = c.two_numbers.ensures in
+    of_query _ _ _ _ halves.0 halves.1 _ _ _ c.states-answered.ensures
 
-pub sockjade-states-spec : {M : Type 1} → statement M
-sockjade-states-spec = tie.close (tie.spec (λ c κs. search rules) (λ c κs. search rules) (λ c. search rules) (λ c. search rules) returns)
+pub sockjade_states_spec : {M : Type 1} → statement M
+sockjade_states_spec = tie.close (tie.spec (λ c κs. search rules) (λ c κs. search rules) (λ c. search rules) (λ c. search rules) returns)

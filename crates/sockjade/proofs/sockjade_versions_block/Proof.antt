@@ -6,8 +6,8 @@ use Rattle.sockjade.proofs.sockjade_versions_block.Tie as tie
 
 returns : tie.Need-returns
 returns c =
-    let halves = c.two-numbers.ensures in
-    of_lookup _ _ _ _ halves.0 halves.1 _ c.before.block.ensures
+    let halves = c.two_numbers.ensures in
+    of_lookup _ _ _ _ halves.0 halves.1 _ c.block-answered.ensures
 
-pub sockjade-versions-block-spec : {M : Type 1} → statement M
-sockjade-versions-block-spec = tie.close (tie.spec (λ c κs. search rules) (λ c κs. search rules) returns)
+pub sockjade_versions_block_spec : {M : Type 1} → statement M
+sockjade_versions_block_spec = tie.close (tie.spec (λ c κs. search rules) (λ c κs. search rules) returns)

@@ -6,10 +6,10 @@ use Rattle.sockjade.proofs.sockjade_versions_put.Tie as tie
 
 returns : tie.Need-returns
 returns c =
-    let halves = c.two-numbers.ensures in
-    of_put _ _ _ _ halves.0 halves.1 _ _ _ c.before.before.before.before.before.before.before.put.ensures
+    let halves = c.two_numbers.ensures in
+    of_put _ _ _ _ halves.0 halves.1 _ _ _ c.put-answered.ensures
 
-pub sockjade-versions-put-spec : {M : Type 1} → statement M
-sockjade-versions-put-spec =
+pub sockjade_versions_put_spec : {M : Type 1} → statement M
+sockjade_versions_put_spec =
     tie.close
     (tie.spec (λ c κs. search rules) (λ c κs. search rules) (λ c. search rules) (λ c. search rules) (λ c. search rules) returns)

@@ -2,7 +2,6 @@
 use mathlib.Core.Bool.{not}
 use borrow.Author.Rules.{rules}
 use mathlib.Core.Path.{ap, sym, ◌∙◌}
-use mathlib.Mathlib.Data.Bool.Basic.{eq-true_of_not-eq-false'}
 use native.Mathlib.Omega.{arith}
 use Rattle.lockpage.specs.Geometry.{present}
 use Rattle.lockpage.proofs.GeometryLaw.{present_proper as σ}

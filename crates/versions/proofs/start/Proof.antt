@@ -1,7 +1,6 @@
 -- `versions::start` meets its contract: the first no, in order, and else the state of a store just started. Assumes nothing.
 use borrow.Author.Rules.{rules}
 use mathlib.Core.Path.{ap, sym, ◌∙◌}
-use mathlib.Mathlib.Data.Bool.Basic.{eq-true_of_not-eq-false', eq-false_of_not-eq-true'}
 use native.Mathlib.Omega.{arith}
 use Rattle.lockpage.proofs.GeometryLaw.{present_proper as σ}
 use Rattle.versions_bytes.specs.Call.{started_of}
