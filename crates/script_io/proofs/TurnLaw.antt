@@ -1,11 +1,11 @@
 -- Laws of a turn: what the tests on a read's answer tell of the step on it. Assumes nothing.
 use mathlib.Core.Path.{◌≡◌, refl, ap, sym, ◌∙◌}
-use mathlib.Core.Bool.{Bool, true, false, not, false≢true}
+use mathlib.Core.Bool.{Bool, true, false, false≢true}
 use mathlib.Core.List.{List, [], ◌∷◌}
-use Prim.Native.Nat.{ℕ, zero, suc, ◌≤◌, min}
+use Prim.Native.Nat.{ℕ, zero, suc, min}
 use native.Mathlib.Nat.{zero-min, min-zero, suc-min-suc}
 use native.Mathlib.Omega.{arith}
-use borrow.Author.Tests.{ltb-true, not-true, not-false}
+use borrow.Author.Tests.{ltb-true}
 use lib.ListN.{length, take}
 use lib.IntN.{ℤ, pos, negsuc}
 use lib.Signed.{lt_z}
@@ -15,11 +15,9 @@ use mir.ValLaws.{to_z-of_z}
 use Rattle.io.specs.Counts.{clamp_len}
 use Rattle.machine.specs.Command.{Box}
 use Rattle.script_printout.specs.declared.Reader.{Reader}
-use Rattle.script_printout.specs.declared.Progress.{Progress}
 use Rattle.script_printout.specs.Reader.{Placed, fed_of, fed, finished}
 use Rattle.script_printout.proofs.PlaceLaw.{placed_none}
-use Rattle.script_io.specs.declared.Turn.{Turn}
-use Rattle.script_io.specs.Turn.{stepped, is_end, has_ended, goes_on}
+use Rattle.script_io.specs.Turn.{stepped}
 
 -- ---- the read's answer, z
 
