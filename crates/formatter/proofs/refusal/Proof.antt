@@ -19,4 +19,4 @@ none c =
     (omega arith)
 
 pub refusal_spec : {M : Type 1} → statement M
-refusal_spec = tie.close (tie.spec (λ c. let x = c.args in too_few σ x.memory.now x.disk.now x.groups x.salt.now (omega arith)) (λ c. let x = c.args in too_many σ x.memory.now x.disk.now x.groups x.salt.now (omega arith) (omega arith)) (λ c. let x = c.args in memory_wrong σ x.memory.now x.disk.now x.groups x.salt.now (omega arith) (omega arith) (search rules)) (λ c κs. search rules) (λ c. let x = c.args in disk_wrong σ x.memory.now x.disk.now x.groups x.salt.now (omega arith) (omega arith) (omega arith) (λ e. (search rules) (e ∙ sym c.disk_size.ensures))) (λ c. let x = c.args in salt_wrong σ x.memory.now x.disk.now x.groups x.salt.now (omega arith) (omega arith) (omega arith) (omega (arith, c.disk_size.ensures)) (search rules)) none)
+refusal_spec = tie.close (tie.spec (λ c. let x = c.args in too_few σ x.memory.now x.disk.now x.groups x.salt.now (omega arith)) (λ c. let x = c.args in too_many σ x.memory.now x.disk.now x.groups x.salt.now (omega arith) (omega arith)) (λ c. let x = c.args in memory_wrong σ x.memory.now x.disk.now x.groups x.salt.now (omega arith) (omega arith) (search rules)) (λ c κs. search rules) (λ c. let x = c.args in disk_wrong σ x.memory.now x.disk.now x.groups x.salt.now (omega arith) (omega arith) (omega arith) (λ e. c.if-disk-disk_size.true (e ∙ sym c.disk_size.ensures))) (λ c. let x = c.args in salt_wrong σ x.memory.now x.disk.now x.groups x.salt.now (omega arith) (omega arith) (omega arith) (omega (arith, c.disk_size.ensures)) (search rules)) none)
