@@ -50,6 +50,7 @@ fn valid_held(memory: &[u8]) -> bool
 
 // Whether the counts of the groups from first on are 0. With few groups most are, and go in one piece of a fixed size, which a compiler
 // takes without a loop; then the last ones, where the piece ends before them.
+#[tactic(auto, using(crate::proofs::CheckLaw::piece_used, crate::proofs::CheckLaw::piece_all, crate::proofs::CheckLaw::last_decides))]
 fn are_unused(memory: &[u8], first: u32) -> bool
     requires { (length memory.now ≡ memory_size present) × (first ≤ present.most_groups) }
     ensures { result ≡ zero_at memory.now (count_start first) (time_start present - count_start first) }

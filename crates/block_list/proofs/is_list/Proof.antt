@@ -9,20 +9,12 @@ use Rattle.block_list.proofs.ListLaw.{left_over, no_number, some_numbers}
 use Rattle.block_list.proofs.is_list.Statement.{statement}
 use Rattle.block_list.proofs.is_list.Tie as tie
 
--- where the numbers are counted
-abbrev counted : tie.Else-blocks-n → tie.After-count-n
-counted c = c.before
-
 mul-if1 : tie.Need-overflow_mul-n
 unfolding number_count
 mul-if1 c = search rules
 
--- no byte is left over
-whole : (c : tie.Else-blocks-n) → length (counted c).before.before.args.blocks.now ≡ number_size * (counted c).count-n.result
-whole c = omega arith
-
 returns-3 : tie.Need-returns
-returns-3 c = some_numbers _ _ c.count-n.ensures (whole c.before) (omega arith)
+returns-3 c = some_numbers _ _ c.count-n.ensures (omega arith) (omega arith)
 
 pub is_list_spec : {M : Type 1} → statement M
-is_list_spec = tie.close (tie.spec (λ c κs. search rules) mul-if1 (λ c. left_over _ _ c.count-n.ensures (search rules)) (λ c. no_number _ _ c.count-n.ensures (whole c.before) (search rules)) returns-3)
+is_list_spec = tie.close (tie.spec (λ c κs. search rules) mul-if1 (λ c. left_over _ _ c.count-n.ensures (search rules)) (λ c. no_number _ _ c.count-n.ensures (omega arith) (search rules)) returns-3)

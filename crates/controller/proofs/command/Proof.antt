@@ -13,12 +13,6 @@ use Rattle.controller.proofs.command.Statement.{statement}
 use Rattle.controller.proofs.command.Tie as tie
 
 -- the states on the way back: the kind found, the questions asked, the start
-refused : tie.Need-returns-then-number-ne-ACCEPTED
-refused c =
-    let x = c.args in
-    comes_refused σ (kind_numbered x.kind x.value) x.memory.now x.disk.now x.block x.time x.content.now x.proof.now
-    x.answer.now _ c.refusal-number.ensures (λ z. omega (arith, z)) x.kind x.value refl
-
 carry-out-requires : tie.Need-carry_out-requires
 carry-out-requires c κs =
     let x = c.args in
@@ -35,5 +29,5 @@ carried-out c =
 pub command_spec : {M : Type 1} → statement M
 command_spec =
     tie.close
-    (tie.spec (λ c κs. search rules) (λ c. search rules) (λ c. search rules) (λ c. search rules) refused (λ c κs. search rules) carry-out-requires
+    (tie.spec (λ c κs. search rules) (λ c. search rules) (λ c. search rules) (λ c. search rules) (λ c. let x = c.args in comes_refused σ (kind_numbered x.kind x.value) x.memory.now x.disk.now x.block x.time x.content.now x.proof.now x.answer.now _ c.refusal-number.ensures (λ z. omega (arith, z)) x.kind x.value refl) (λ c κs. search rules) carry-out-requires
     (λ c. search rules) (λ c. search rules) (λ c. search rules) carried-out)

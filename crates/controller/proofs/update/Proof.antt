@@ -16,12 +16,6 @@ refusal-requires c κs =
     update_ready σ x.u (box_of x.memory.now x.disk.now)
     (command_of 0 x.block x.time 0 x.content.now x.proof.now x.answer.now) c.requires
 
-refused : tie.Need-returns-then-refusal-ne-ACCEPTED
-refused c =
-    let x = c.args in
-    update_refused σ x.u x.memory.now x.disk.now x.block x.time x.content.now x.proof.now x.answer.now
-    c.requires _ c.refusal-refusal.ensures (λ z. omega (arith, z))
-
 change-requires : tie.Need-change-requires
 change-requires c κs =
     let x = c.args in
@@ -38,4 +32,4 @@ accepted c =
 pub update_spec : {M : Type 1} → statement M
 update_spec =
     tie.close
-    (tie.spec refusal-requires (λ c. search rules) refused change-requires (λ c. search rules) (λ c. search rules) (λ c. search rules) accepted)
+    (tie.spec refusal-requires (λ c. search rules) (λ c. let x = c.args in update_refused σ x.u x.memory.now x.disk.now x.block x.time x.content.now x.proof.now x.answer.now c.requires _ c.refusal-refusal.ensures (λ z. omega (arith, z))) change-requires (λ c. search rules) (λ c. search rules) (λ c. search rules) accepted)

@@ -7,13 +7,7 @@ use mir.Val.{to_z}
 use Rattle.octets.proofs.signed.Statement.{statement}
 use Rattle.octets.proofs.signed.Tie as tie
 
-complement : tie.Need-returns-else-n-lt9223372036854775808
-complement c =
-    let n = c.before.args.n in
-    let e : 18446744073709551615 - (18446744073709551615 - n) ≡ n = omega (arith, c.before.ranges.n) in
-    ap (to_z w64) e
-
 pub signed_spec : {M : Type 1} → statement M
 signed_spec =
     tie.close
-    (tie.spec (λ c. record { sfits = omega arith }) (λ c. record { sfits = omega arith }) (λ c. refl) complement)
+    (tie.spec (λ c. record { sfits = omega arith }) (λ c. record { sfits = omega arith }) (λ c. refl) (λ c. let n = c.args.n in let e : 18446744073709551615 - (18446744073709551615 - n) ≡ n = omega (arith, c.ranges.n) in ap (to_z w64) e))

@@ -14,12 +14,6 @@ use Rattle.versions.proofs.flush.Tie as tie
 record-count-requires : tie.Need-record_count-requires
 record-count-requires c κs = (facts present _ (sym c.valid.ensures ∙ (search rules))).size
 
-nothing : tie.Need-returns-then-record_count-eq0
-unfolding Below
-nothing c =
-    law.flush_nothing σ _ _ _ _ _ c.valid.ensures (search rules) (λ i. omega (arith, c.slice_known-1.given i))
-    (omega (arith, c.record_count.ensures))
-
 allocate-requires : tie.Need-allocate-next-requires
 allocate-requires c κs =
     sym c.valid.ensures ∙ (search rules)
@@ -28,7 +22,7 @@ store-requires : tie.Need-store-requires
 store-requires c κs =
     record {
       valid = sym c.valid.ensures ∙ (search rules);
-      records = λ z. (search rules) (c.record_count.ensures ∙ z);
+      records = λ z. omega (arith, c.record_count.ensures);
       asked = sym c.allocate-next.ensures.number_is ∙ omega arith;
       pointer_is = c.allocate-next.ensures.block_is (omega arith);
     }
@@ -38,6 +32,7 @@ stored c =
     c.store.ensures ∙ sym (law.flush_handed σ _ _ _ _ _ c.valid.ensures (search rules))
 
 pub flush_spec : {M : Type 1} → statement M
+unfolding Below
 flush_spec =
     tie.close
     (tie.spec
@@ -46,12 +41,12 @@ flush_spec =
     (λ c. law.flush_no_state σ _ _ _ _ _ c.valid.ensures (search rules))
     record-count-requires
     (λ c. search rules)
-    nothing
+    (λ c. law.flush_nothing σ _ _ _ _ _ c.valid.ensures (search rules) (λ i. omega (arith, c.slice_known-1.given i)) (omega (arith, c.record_count.ensures)))
     allocate-requires
     (λ c. search rules)
     (λ c. search rules)
     (λ c. search rules)
-    (λ c. law.flush_no_box σ _ _ _ _ _ c.valid.ensures (search rules) (λ z. (search rules) (c.record_count.ensures ∙ z)) _ _ c.allocate-next.ensures (search rules))
+    (λ c. law.flush_no_box σ _ _ _ _ _ c.valid.ensures (search rules) (λ z. omega (arith, c.record_count.ensures)) _ _ c.allocate-next.ensures (search rules))
     store-requires
     (λ c. search rules)
     (λ c. search rules)

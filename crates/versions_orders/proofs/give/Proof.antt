@@ -26,20 +26,16 @@ groups-requires c κs = (facts σ _ c.requires.valid.memory).size
 blocks-of : (c : tie.After-data_blocks) → c.data_blocks.result ≡ data_blocks present (groups present (start c).args.memory.now)
 blocks-of c = c.data_blocks.ensures ∙ ap (data_blocks present) c.groups.ensures
 
--- the block is one of them
-below : (c : tie.Else-block-data_blocks) → (start c.before).args.block < data_blocks present (groups present (start c.before).args.memory.now)
-below c = omega (arith, blocks-of c.before)
-
 bring-requires : tie.Need-bring-requires
 bring-requires c κs =
-    record { box = c.requires.valid; block = below c.before.before.before; proof_size_is = search rules }
+    record { box = c.requires.valid; block = omega (arith, blocks-of c.before.before.before.before); proof_size_is = search rules }
 
 update-requires : tie.Need-update-requires
 unfolding repeated
 update-requires c κs =
     let x = c.args in
     first_asked σ (box_of x.memory.now x.disk.now) x.u x.block x.time x.content.now c.bring.new.proof
-    (repeated (answer_size present) 0) c.requires (below c.before.before.before.before.before.before.before.before.before)
+    (repeated (answer_size present) 0) c.requires (omega (arith, blocks-of c.before.before.before.before.before.before.before.before.before.before))
     (omega (arith, c.content_length.ensures)) (search rules) (repeated_length (answer_size present) 0)
 
 was-carried-out : tie.Need-returns
@@ -52,5 +48,5 @@ was-carried-out c =
 pub give_spec : {M : Type 1} → statement M
 give_spec =
     tie.close
-    (tie.spec groups-requires (λ c κs. search rules) (λ c. search rules) (λ c. no_block σ _ _ _ _ _ c.requires (omega (arith, blocks-of c.before))) (λ c κs. search rules) (λ c. search rules) (λ c. let x = c.args in wrong_length σ (box_of x.memory.now x.disk.now) x.u x.block x.time x.content.now c.requires (below c.before.before) (λ e. omega (arith, c.content_length.ensures, e)))
+    (tie.spec groups-requires (λ c κs. search rules) (λ c. search rules) (λ c. no_block σ _ _ _ _ _ c.requires (omega (arith, blocks-of c.before))) (λ c κs. search rules) (λ c. search rules) (λ c. let x = c.args in wrong_length σ (box_of x.memory.now x.disk.now) x.u x.block x.time x.content.now c.requires (omega (arith, blocks-of c.before.before.before)) (λ e. omega (arith, c.content_length.ensures, e)))
     (λ c. search rules) bring-requires (λ c. search rules) (λ c. search rules) update-requires (λ c. search rules) (λ c. search rules) was-carried-out)

@@ -10,22 +10,6 @@ use Rattle.write_back.proofs.HeldLaw.{none_lost, held_few, held_count, held_lost
 use Rattle.write_back.proofs.lose_held.Statement.{statement}
 use Rattle.write_back.proofs.lose_held.Tie as tie
 
-none : tie.Need-returns-then-lost
-none c = none_lost σ _ _ c.held-lost.ensures (search rules)
-
--- the states on the way back: none held, the count read, a group held, the start
-abbrev counted : tie.After-hold_none → tie.After-count-count
-counted c = c.before.before
-
-abbrev tested : tie.After-count-count → tie.Else-lost
-tested c = c.before
-
-abbrev start : tie.Else-lost → tie.Start
-start c = c.before.before.before
-
-few : (c : tie.Else-lost) → c.before.held-lost.result < present.most_groups
-few c = held_few σ _ _ c.held-lost.ensures (facts σ _ c.requires) (search rules)
-
 within : (c : tie.After-count-count) → c.count-count.result ≤ count_limit
 within c =
     held_count σ _ _ c.held-lost.ensures (facts σ _ c.requires) (search rules) _ c.count-count.ensures
@@ -33,7 +17,7 @@ within c =
 set-requires : tie.Need-set_count-requires
 set-requires c κs =
     let size = (facts σ _ c.requires).size in
-    record { size = search rules; group = few c.before.before.before.before.before.before }
+    record { size = search rules; group = held_few σ _ _ c.held-lost.ensures (facts σ _ c.requires) (search rules) }
 
 some : tie.Need-returns
 some c =
@@ -43,7 +27,7 @@ some c =
 pub lose_held_spec : {M : Type 1} → statement M
 lose_held_spec =
     tie.close
-    (tie.spec (λ c κs. (facts σ _ c.requires).size) (λ c. search rules) (λ c. search rules) none
-    (λ c κs. record { size = (facts σ _ c.requires).size; group = few c })
+    (tie.spec (λ c κs. (facts σ _ c.requires).size) (λ c. search rules) (λ c. search rules) (λ c. none_lost σ _ _ c.held-lost.ensures (search rules))
+    (λ c κs. record { size = (facts σ _ c.requires).size; group = held_few σ _ _ c.held-lost.ensures (facts σ _ c.requires) (search rules) })
     (λ c κs. (facts σ _ c.requires).size)
     (λ c. omega (arith, within c.before.before.before.before.before)) set-requires (λ c. search rules) some)

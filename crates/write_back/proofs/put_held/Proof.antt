@@ -7,31 +7,21 @@ use Rattle.write_back.proofs.HeldLaw.{none_put, held_has, held_size, held_put}
 use Rattle.write_back.proofs.put_held.Statement.{statement}
 use Rattle.write_back.proofs.put_held.Tie as tie
 
--- where it starts, once a group is held, and where that is known, once its page is copied
-abbrev start : tie.Else-held → tie.Start
-start c = c.before.before.before.before
-
-abbrev tested : tie.After-copy_page → tie.Else-held
-tested c = c.before.before
-
-valid : (c : tie.Else-held) → Valid present (start c).args.memory.now
-valid c = facts σ _ c.requires.memory
-
 copy-page-requires : tie.Need-copy_page-requires
 copy-page-requires c κs =
-    let size = (valid c.before).size in
+    let size = (facts σ _ c.requires.memory).size in
     search rules
 
 store-page-requires : tie.Need-store_page-requires
 store-page-requires c κs =
     let disk = c.args.disk.now in (
-      held_has σ _ _ c.held-held.ensures (valid c.before.before.before.before.before) (search rules) disk _ c.requires.disk c.copy_page.ensures,
-      held_size σ _ _ c.held-held.ensures (valid c.before.before.before.before.before) (search rules) disk _ c.requires.disk c.copy_page.ensures,
+      held_has σ _ _ c.held-held.ensures (facts σ _ c.requires.memory) (search rules) disk _ c.requires.disk c.copy_page.ensures,
+      held_size σ _ _ c.held-held.ensures (facts σ _ c.requires.memory) (search rules) disk _ c.requires.disk c.copy_page.ensures,
     )
 
 some : tie.Need-returns
 some c =
-    held_put σ _ _ c.held-held.ensures (valid c.before.before.before.before.before.before.before.before) (search rules) _ _ c.requires.disk c.copy_page.ensures _
+    held_put σ _ _ c.held-held.ensures (facts σ _ c.requires.memory) (search rules) _ _ c.requires.disk c.copy_page.ensures _
     c.store_page.ensures
 
 pub put_held_spec : {M : Type 1} → statement M

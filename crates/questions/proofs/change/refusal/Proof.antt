@@ -8,10 +8,7 @@ use Rattle.questions.proofs.ChangeLaw.{matches_answer, unexhausted_answer, allow
 use Rattle.questions.proofs.change.refusal.Statement.{statement}
 use Rattle.questions.proofs.change.refusal.Tie as tie
 
--- the states on the way back: the first test passed, the tag compared, the start
-abbrev first : tie.Else-not-allowed → tie.Else-not-matches
-first c = c.before.before
-
+-- the states on the way back: the tag compared, the start
 abbrev compared : tie.After-within_limit-within → tie.After-matches-matches
 compared c = c.before.before.before.before
 
@@ -34,14 +31,10 @@ answers c =
       limit_is = within_answer x.u x.time _ _ _ entry.brought_entry-e.ensures c.within_limit-within.ensures;
     }
 
-tag : tie.Need-returns-then-not-matches
-tag c = no_7 σ _ _ _ _ _ _ _ _ _ (answers c.before) (search rules)
-
 none : tie.Need-returns
 none c =
-    let third = c.before in
-    none_no σ _ _ _ _ _ _ _ _ _ (answers (first third).before) (search rules) (search rules) (search rules) (search rules)
+    none_no σ _ _ _ _ _ _ _ _ _ (answers c.before.before.before.before) (search rules) (search rules) (search rules) (search rules)
 
 pub refusal_spec : {M : Type 1} → statement M
 refusal_spec = tie.close (tie.spec (λ c κs. search rules) (λ c κs. search rules) (λ c κs. search rules) (λ c κs. search rules) (λ c κs. search rules)
-    (λ c κs. search rules) (λ c κs. search rules) tag (λ c. no_8 σ _ _ _ _ _ _ _ _ _ (answers c.before.before) (search rules) (search rules)) (λ c. no_9 σ _ _ _ _ _ _ _ _ _ (answers c.before.before.before) (search rules) (search rules) (search rules)) (λ c. let third = c.before in no_10 σ _ _ _ _ _ _ _ _ _ (answers (first third).before) (search rules) (search rules) (search rules) (search rules)) none)
+    (λ c κs. search rules) (λ c κs. search rules) (λ c. no_7 σ _ _ _ _ _ _ _ _ _ (answers c.before) (search rules)) (λ c. no_8 σ _ _ _ _ _ _ _ _ _ (answers c.before.before) (search rules) (search rules)) (λ c. no_9 σ _ _ _ _ _ _ _ _ _ (answers c.before.before.before) (search rules) (search rules) (search rules)) (λ c. no_10 σ _ _ _ _ _ _ _ _ _ (answers c.before.before.before.before) (search rules) (search rules) (search rules) (search rules)) none)

@@ -31,11 +31,6 @@ enter-requires c κs =
       more = omega (arith, c.record_count.ensures);
     }
 
-entered : tie.Need-returns-then-record_count-lt-MOST_RECORDS
-entered c =
-    entered_stored σ _ _ _ _ _ _ c.requires _ c.lock-lock.ensures _ c.newest-replaced.ensures _ c.write.ensures
-    (omega (arith, c.record_count.ensures)) _ c.enter.ensures
-
 store-full-requires : tie.Need-store_full-requires
 store-full-requires c κs =
     log_ready σ _ _ _ _ _ _ c.requires _ c.lock-lock.ensures _ c.newest-replaced.ensures _ c.write.ensures
@@ -58,7 +53,7 @@ store_spec =
     (λ c. search rules)
     (λ c. search rules)
     (λ c. search rules)
-    entered
+    (λ c. entered_stored σ _ _ _ _ _ _ c.requires _ c.lock-lock.ensures _ c.newest-replaced.ensures _ c.write.ensures (omega (arith, c.record_count.ensures)) _ c.enter.ensures)
     store-full-requires
     (λ c. search rules)
     (λ c. search rules)
