@@ -48,5 +48,5 @@ returns c =
 pub all_below_spec : {M : Type 1} → statement M
 all_below_spec =
     tie.close
-    (tie.spec invariant-loop decreases-loop (λ c κs. search rules) loop-holds (λ c. search rules) number-requires (λ c. search rules) (λ c. let inv = c.loop-i.invariant in ( omega (arith, inv.0), all_no _ _ _ _ (omega (arith, inv.0)) (le-ltb (number c.before.before.before) c.args.limit (omega (arith, c.number.ensures))), ))
+    (tie.spec invariant-loop decreases-loop (λ c κs. search rules) loop-holds (λ c. search rules) number-requires (λ c. search rules) (λ c. let inv = c.loop-i.invariant in (omega (arith, inv.0), all_no _ _ _ _ (omega (arith, inv.0)) (le-ltb (number c.before.before.before) c.args.limit (omega (arith, c.number.ensures)))))
     (λ c. search rules) loop-again-2 returns)

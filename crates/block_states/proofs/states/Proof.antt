@@ -6,7 +6,6 @@ use Rattle.block_states.proofs.OutcomeLaw as outcome
 use Rattle.block_states.proofs.states.Statement.{statement}
 use Rattle.block_states.proofs.states.Tie as tie
 
--- the states on the way back: the last time set, the questions asked
 refused : tie.Need-returns-then-number-ne-ACCEPTED
 refused c = outcome.refused σ _ _ _ _ _ _ c.refusal-number.ensures c.if-number-ne-ACCEPTED.true
 

@@ -12,7 +12,6 @@ use Rattle.controller.proofs.CommandLaw.{comes_refused}
 use Rattle.controller.proofs.command.Statement.{statement}
 use Rattle.controller.proofs.command.Tie as tie
 
--- the states on the way back: the kind found, the questions asked, the start
 carry-out-requires : tie.Need-carry_out-requires
 carry-out-requires c κs =
     let x = c.args in

@@ -9,7 +9,6 @@ use Rattle.controller.proofs.CommandLaw.{salt_refused, salt_passed, salt_made}
 use Rattle.controller.proofs.new_salt.Statement.{statement}
 use Rattle.controller.proofs.new_salt.Tie as tie
 
--- the states on the way back: the question passed, the start
 salt-refusal-requires : tie.Need-salt_refusal-unchanged-requires
 salt-refusal-requires c κs =
     let x = c.args in

@@ -9,7 +9,6 @@ use Rattle.controller.proofs.CommandLaw.{update_refused, update_passed, update_m
 use Rattle.controller.proofs.update.Statement.{statement}
 use Rattle.controller.proofs.update.Tie as tie
 
--- the states on the way back: the questions passed, the start
 refusal-requires : tie.Need-refusal-refusal-requires
 refusal-requires c κs =
     let x = c.args in

@@ -9,8 +9,6 @@ use Rattle.script_answers.proofs.RunLaw.{got_size, within, content_of_lem, conte
 use Rattle.script_answers.proofs.run.Statement.{statement}
 use Rattle.script_answers.proofs.run.Tie as tie
 
--- the states on the way back: no proof asked for; the page got, a proof asked for; the kind found
--- the content is no longer than a block
 fits : (c : tie.After-content_length-n) → c.content_length-n.result ≤ block_size present
 fits c = within c.kind_numbered-k.result _ c.content_length-n.ensures
 

@@ -13,7 +13,6 @@ use Rattle.script_answers.proofs.RunLaw.{sent_other, sent_refused, sent_entry}
 use Rattle.script_answers.proofs.send.Statement.{statement}
 use Rattle.script_answers.proofs.send.Tie as tie
 
--- the states on the way back: accepted, sent, the start
 -- the command's outcome
 abbrev outcome : tie.After-command-number → Outcome
 outcome c =

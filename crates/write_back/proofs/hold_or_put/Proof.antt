@@ -53,5 +53,5 @@ hold_or_put_spec =
     tie.close
     (tie.spec (λ c κs. c.requires.box.memory) (λ c κs. has c.before.before.before.before)
     (λ c. omega (arith, c.count-count.ensures, c.requires.unexhausted))
-    (λ c κs. has c.before.before.before.before.before.before) hold-requires (λ c. search rules) (λ c. let next = c.next_update-updates.ensures in ( staying_held σ _ _ _ next (omega arith) _ _ _ _ c.count-count.ensures c.set_count.ensures c.hold.ensures, staying_put σ _ _ _ next (omega arith) _ _, )) store-page-requires hold-none-requires
+    (λ c κs. has c.before.before.before.before.before.before) hold-requires (λ c. search rules) (λ c. let next = c.next_update-updates.ensures in (staying_held σ _ _ _ next (omega arith) _ _ _ _ c.count-count.ensures c.set_count.ensures c.hold.ensures, staying_put σ _ _ _ next (omega arith) _ _)) store-page-requires hold-none-requires
     (λ c. search rules) (λ c. search rules) left)

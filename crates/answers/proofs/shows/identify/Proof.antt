@@ -9,7 +9,6 @@ use Rattle.answers.proofs.ShowLaw.{identify_outcome}
 use Rattle.answers.proofs.shows.identify.Statement.{statement}
 use Rattle.answers.proofs.shows.identify.Tie as tie
 
--- the states on the way back: the first number stored, the groups read, the last time set, the start
 cast-store-u32 : tie.Need-overflow_cast-data_blocks
 unfolding Below
 cast-store-u32 c =

@@ -8,7 +8,6 @@ use Rattle.answers.proofs.ShowLaw.{read_outcome}
 use Rattle.answers.proofs.shows.read.Statement.{statement}
 use Rattle.answers.proofs.shows.read.Tie as tie
 
--- where it starts, before the last time is set
 read-block-requires : tie.Need-read_block-requires
 read-block-requires c κs =
     let ready = c.requires in

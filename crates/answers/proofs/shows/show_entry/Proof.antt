@@ -8,7 +8,6 @@ use Rattle.answers.proofs.ShowLaw.{entry_outcome}
 use Rattle.answers.proofs.shows.show_entry.Statement.{statement}
 use Rattle.answers.proofs.shows.show_entry.Tie as tie
 
--- where it starts, before the last time is set
 entry-requires : tie.Need-entry-e-requires
 entry-requires c κs =
     let ready = c.requires in

@@ -9,7 +9,6 @@ use Rattle.answers.proofs.ShowLaw.{page_outcome}
 use Rattle.answers.proofs.shows.show_page.Statement.{statement}
 use Rattle.answers.proofs.shows.show_page.Tie as tie
 
--- the states on the way back: the page copied, the memory with its last time set, the start
 fetch-requires : tie.Need-fetch-requires
 fetch-requires c κs =
     let ready = c.requires in

@@ -16,8 +16,6 @@ use Rattle.effects.proofs.ChangeLaw.{change_outcome}
 use Rattle.effects.proofs.changes.change.Statement.{statement}
 use Rattle.effects.proofs.changes.change.Tie as tie
 
--- the states on the way back: the changed page made, the content stored, the other page evicted, the last time set, the start
--- the memory at entry has the block's group
 has : (c : tie.Start) → HasCount present c.args.memory.now (group_of present c.args.block)
 has c =
     let v = facts σ _ c.requires.box.memory in

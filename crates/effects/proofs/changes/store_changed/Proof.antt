@@ -10,7 +10,6 @@ use Rattle.effects.proofs.ChangeLaw.{changed_stored}
 use Rattle.effects.proofs.changes.store_changed.Statement.{statement}
 use Rattle.effects.proofs.changes.store_changed.Tie as tie
 
--- the states on the way back: the page copied, the entry brought, the start
 updated-requires : tie.Need-updated-requires
 updated-requires c κs =
     let x = c.args in

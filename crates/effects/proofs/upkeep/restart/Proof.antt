@@ -7,7 +7,6 @@ use Rattle.effects.proofs.UpkeepLaw.{lost}
 use Rattle.effects.proofs.upkeep.restart.Statement.{statement}
 use Rattle.effects.proofs.upkeep.restart.Tie as tie
 
--- where it starts, once the last time is set
 sound : tie.Need-lose_held-requires
 sound c κs =
     let known = c.requires in

@@ -7,7 +7,6 @@ use Rattle.effects.proofs.UpkeepLaw.{synced}
 use Rattle.effects.proofs.upkeep.sync.Statement.{statement}
 use Rattle.effects.proofs.upkeep.sync.Tie as tie
 
--- the states on the way back: the last time set, the start
 sound : tie.Need-put_held-requires
 sound c κs =
     let known = c.requires in

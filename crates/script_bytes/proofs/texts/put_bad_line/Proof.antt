@@ -8,8 +8,6 @@ use Rattle.script_printout.proofs.TextLaw.{Rest, bad_line_length, bad_line_put}
 use Rattle.script_bytes.proofs.texts.put_bad_line.Statement.{statement}
 use Rattle.script_bytes.proofs.texts.put_bad_line.Tie as tie
 
--- the states on the way back: the number put, the text copied, the start
--- behind the number
 rest : (c : tie.After-slice_known-3-1)
     → Rest c.args.out.now c.args.at c.args.n c.put-end.new.out c.put-end.result
 unfolding bad

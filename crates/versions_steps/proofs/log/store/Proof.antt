@@ -12,7 +12,6 @@ use Rattle.versions_steps.proofs.OrderedLaw.{order_ready, flush_refused, flush_s
 use Rattle.versions_steps.proofs.log.store.Statement.{statement}
 use Rattle.versions_steps.proofs.log.store.Tie as tie
 
--- the states on the way back: the order given, the reserve read, the lock read, the log block filled, the start
 size : (c : tie.Start) → length c.args.state.now ≡ state_size present
 size c = (facts present _ c.requires.valid).size
 

@@ -10,7 +10,6 @@ use Rattle.versions_steps.proofs.OrderedLaw.{full_stored}
 use Rattle.versions_steps.proofs.log.store_full.Statement.{statement}
 use Rattle.versions_steps.proofs.log.store_full.Tie as tie
 
--- the states on the way back: the log block filled, the next reserve found, the reserve read, the start
 size : (c : tie.Start) → length c.args.state.now ≡ state_size present
 size c = (facts present _ c.requires.valid).size
 

@@ -12,7 +12,6 @@ use Rattle.versions_steps.proofs.StoreLaw.{is_part, version_ready, entered_store
 use Rattle.versions_steps.proofs.version.store.Statement.{statement}
 use Rattle.versions_steps.proofs.version.store.Tie as tie
 
--- the states on the way back: the newest read, the lock read, the start
 size : (c : tie.Start) → length c.args.state.now ≡ state_size present
 size c = (facts present _ c.requires.put_ready.valid).size
 
