@@ -88,8 +88,10 @@ named-few c =
     let inv = c.loop-i.invariant in
     omega (arith, inv.0, linked_few _ _ _ _ _ _ _ _ inv.1, c.requires.list.few)
 
+-- where a group is named, its first place was the sign for none
 slice-write-named : tie.Need-bounds-named-groups invariant-loop decreases-loop
 slice-write-named c =
+    let none : get_or c.loop-i.first c.group_of-group.result 0 ≡ most_numbers = omega arith in
     omega (arith, named-few c.before.before.before.before, c.loop-i.invariant.1.named_size)
 
 add-groups : tie.Need-overflow_add-groups invariant-loop decreases-loop
