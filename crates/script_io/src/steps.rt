@@ -12,7 +12,7 @@ use script_printout::{Progress, Reader, Stage};
 
 // The step on what a read answered: got bytes stand at the start of piece; at 0 the script is at its end. A read that fails, below 0, is not
 // the end: the line that it cuts is not run.
-#[tactic(auto, using(crate::proofs::TurnLaw::stepped_failed, crate::proofs::TurnLaw::stepped_end, crate::proofs::TurnLaw::stepped_bytes))]
+#[tactic(auto, using(crate::proofs::TurnLaw::step_failed, crate::proofs::TurnLaw::step_end, crate::proofs::TurnLaw::step_bytes))]
 pub(crate) fn step(
     reader: Reader,
     memory: &mut [u8; MEMORY_SIZE],

@@ -8,15 +8,24 @@ use borrow.Author.Tests.{eq-eqb, ne_eqb, le-leb, lt-leb}
 use lib.Dec.{leb}
 use Rattle.octets.specs.Number.{number_at}
 use Rattle.lockpage.specs.Geometry.{present}
+use Rattle.lockpage.specs.Update.{longest_lock}
 use Rattle.machine.specs.Query.{listed}
 use Rattle.machine.proofs.ListedLaw.{all_none, all_cons}
-use Rattle.versions_machine.specs.Versions.{no_block, block_number, Record}
+use Rattle.versions_machine.specs.Versions.{no_block, block_number, Record, is_lock}
 use Rattle.versions_machine.specs.Log.{record_field}
 use Rattle.versions_machine.specs.Allocation.{blocks_from}
 use Rattle.versions_machine.specs.Call.{last_part}
 use Rattle.versions_state.specs.Layout.{parts, record_start}
 use Rattle.versions_state.specs.State.{newest_number, record_in, records_in, versions_in, is_block, is_newest, is_record, newests_fit}
 use Rattle.versions_state.proofs.ReadLaw.{newest_number_lem}
+
+-- ---- a lock
+
+pub no_lock : (lock : ℕ) → lock < 1 → false ≡ is_lock lock
+no_lock lock h = sym (ap (λ (b : Bool). b && leb lock longest_lock) (lt-leb 1 lock h))
+
+pub some_lock : (lock : ℕ) → 1 ≤ lock → leb lock longest_lock ≡ is_lock lock
+some_lock lock h = sym (ap (λ (b : Bool). b && leb lock longest_lock) (le-leb 1 lock h))
 
 -- ---- a block
 

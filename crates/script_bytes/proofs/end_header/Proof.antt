@@ -19,4 +19,4 @@ whole c =
 
 pub end_header_spec : {M : Type 1} → statement M
 end_header_spec =
-    tie.close (tie.spec (λ c κs. search rules) (λ c. search rules) (λ c. let x = c.args in prints_as _ _ x.out.now x.at _ _ c.stop.ensures (λ s. sym (header_short x.number x.k s (λ e. (search rules) (e ∙ header_length))))) put-heading-requires (λ c κs. search rules) (λ c. search rules) whole)
+    tie.close (tie.spec (λ c κs. search rules) (λ c. search rules) (λ c. let x = c.args in prints_as _ _ x.out.now x.at _ _ c.stop.ensures (λ s. sym (header_short x.number x.k s (λ e. omega (arith, header_length, e))))) put-heading-requires (λ c κs. search rules) (λ c. search rules) whole)
