@@ -1,7 +1,7 @@
 #!/usr/bin/env python3
 """Spells the repository's own definitions and lemmas as today's Rattle does: words in snake case, types in camel case.
 
-usage: python3 tools/respell.py            at the top of the repository, once, right after /opt/rattle/port/port.py
+usage: python3 tools/respell.py            at the top of the repository, once, right after the kit's port.py
        python3 tools/respell.py --table    prints the table, old name and new, and changes nothing
 
 It goes by the names that specs/ and proofs/ declare. A name of the source, of the library, or one that Rattle makes is none of those.
