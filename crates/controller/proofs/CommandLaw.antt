@@ -2,7 +2,6 @@
 use mathlib.Core.Path.{◌≡◌, refl, ap, sym, subst, ◌∙◌}
 use mathlib.Core.Bool.{false≢true}
 use mathlib.Core.List.{List, [], ◌∷◌}
-use Rattle.std.proofs.Common.{Ok, Err}
 use Prim.Native.Nat.{ℕ}
 use borrow.Author.Tests.{ltb-true}
 use lib.ListN.{length}
@@ -20,7 +19,7 @@ use Rattle.machine.specs.Question.{question11, questions, questions_to, first_no
 use Rattle.machine.specs.Effect.{change, new_salt, effect}
 use Rattle.machine.specs.Step.{timed, done, accepted}
 use Rattle.machine.proofs.QuestionLaw.{all_numbered, accepted_yes}
-use Rattle.machine.proofs.RefusalLaw.{numbers_tell}
+use Rattle.machine.proofs.RefusalLaw.{some_number}
 use Rattle.machine.proofs.PassedLaw.{passed, changes}
 use Rattle.machine.proofs.StepLaw.{step_accepted, refused_of}
 use Rattle.machine.specs.Claims.{ValidBox}
@@ -31,12 +30,6 @@ use Rattle.questions.specs.FirstQuestions.{first_questions}
 use Rattle.questions.specs.ChangeQuestions.{change_questions}
 use Rattle.questions.proofs.RefusalLaw.{rest, to_rest, first_refused, change_left, salt_left, salt_size_is, update_ready as ready_to_update}
 use Rattle.controller.specs.ByKind.{ComesTo}
-
--- no refusal has the number of an accepted command
-some_number : (r : Refusal) → refusal_number r ≡ 0 → ⊥
-some_number r e =
-    let same : Err r ≡ Ok tt = numbers_tell (Err r) (Ok tt) e in
-    cc
 
 -- γ is any proper geometry
 module _ {γ : Geometry} (σ : Proper γ) where
