@@ -17,7 +17,7 @@ use Rattle.machine.specs.declared.Refusal.TheVariants.{
   PartOutOfRange,
   TooFewFree,
 }
-use Rattle.machine.specs.Refusal.{number_of, NumbersTell}
+use Rattle.machine.specs.Refusal.{refusal_number, number_of, NumbersTell}
 
 -- the answers in their numbers' order
 abbrev answers : List (Result Unit Refusal)
@@ -48,3 +48,9 @@ found (Err TooFewFree) = refl
 
 pub numbers_tell : NumbersTell
 numbers_tell a b h = sym (found a) ∙ (ap numbered h ∙ found b)
+
+-- no refusal has the number of an accepted call
+pub some_number : (r : Refusal) → refusal_number r ≡ 0 → ⊥
+some_number r e =
+    let same : Err r ≡ Ok tt = numbers_tell (Err r) (Ok tt) e in
+    cc
