@@ -5,6 +5,7 @@ use Prim.Native.Nat.{ℕ, ◌+◌, ◌≤◌, ◌<◌}
 use native.Mathlib.Nat.{add-zero}
 use native.Mathlib.Omega.{arith}
 use lib.ListN.{length}
+use Rattle.std.specs.Prelude.{Some}
 use Rattle.octets.specs.Part.{repeated, replaced}
 use Rattle.octets.proofs.ReplacedLaw.{replaced_none}
 use Rattle.lockpage.specs.Geometry.{present}
@@ -13,7 +14,6 @@ use Rattle.machine.specs.Format.{FormatOutcome, format_outcome_of, format}
 use Rattle.memory.specs.Layout.{salt_size}
 use Rattle.script_lines.specs.declared.Values.{Values}
 use Rattle.script_lines.specs.declared.Line.{Line}
-use Rattle.script_lines.specs.declared.Judged.TheVariants.{Right}
 use Rattle.script_lines.specs.Reading.{judged}
 use Rattle.script_answers.specs.declared.Shown.{Shown}
 use Rattle.script_answers.specs.Answer.{most_printed, Ran, ran_of, ran_line, line_shown}
@@ -84,7 +84,7 @@ prints_none_on q r out at p s e f g = (placed_none p r s out at e f ∙ ap (plac
 
 pub prints_line : (number : ℕ) (line : Line) (v : Values) (s : Box) (memory disk : List ℕ) (shown : Shown) (out : List ℕ) (at : ℕ) (p : Progress)
     (out' : List ℕ)
-    → judged line ≡ Right v → ran_of memory disk shown ≡ ran_line s v → p.reader ≡ reader_behind number
+    → judged line ≡ Some v → ran_of memory disk shown ≡ ran_line s v → p.reader ≡ reader_behind number
     → (out' ≡ replaced out at (line_shown v shown)) × ((p.end ≡ at + length (line_shown v shown)) × (p.end ≤ at + most_printed))
     → PrintsOn (line_end number line s) out at p (box_of memory disk) out'
 prints_line number line v s memory disk shown out at p out' j e r w =

@@ -1,11 +1,9 @@
 -- The reader: what is kept between two pieces of the input, and what a byte prints. That the pieces print the printout is the claim
 -- PiecesPrinted. Assumes nothing: these are definitions.
-use Rattle.std.specs.Prelude.{◌≡◌, Bool, true, false, ◌&&◌, List, [], ◌∷◌, ◌++◌, ℕ, ◌+◌, ◌*◌, min, length, get_or, eqb, ltb, leb}
+use Rattle.std.specs.Prelude.{◌≡◌, Bool, true, false, ◌&&◌, List, [], ◌∷◌, ◌++◌, ℕ, ◌+◌, ◌*◌, min, length, get_or, eqb, ltb, leb, Some, None}
 use Rattle.octets.specs.Part.{replaced}
 use Rattle.machine.specs.Command.{Box}
 use Rattle.script_lines.specs.declared.Line.{Line}
-use Rattle.script_lines.specs.declared.Next.TheVariants.{Going, Wrong}
-use Rattle.script_lines.specs.declared.Judged.TheVariants.{Right, Malformed}
 use Rattle.script_lines.specs.Syntax.{newline}
 use Rattle.script_lines.specs.Reading.{blank, is_blank, after_byte, judged}
 use Rattle.script_answers.specs.Answer.{most_printed, ran_line, line_shown}
@@ -58,8 +56,8 @@ header_end number k s =
 unfoldable pub line_end : ℕ → Line → Box → Printing
 line_end number line s =
     elim (judged line) [
-      | Right v ↦ printing (reader_behind number) (ran_line s v).box (line_shown v (ran_line s v).shown)
-      | Malformed ↦ stopped number s
+      | Some v ↦ printing (reader_behind number) (ran_line s v).box (line_shown v (ran_line s v).shown)
+      | None ↦ stopped number s
     ]
 
 -- one byte of the header
@@ -79,8 +77,8 @@ body_byte number line s b =
     elim (eqb b newline) [
       | true ↦ line_end number line s
       | false ↦ elim (after_byte line b) [
-        | Going next ↦ printing (reader_of number (Body next)) s []
-        | Wrong ↦ stopped number s
+        | Some next ↦ printing (reader_of number (Body next)) s []
+        | None ↦ stopped number s
       ]
     ]
 
