@@ -1,5 +1,5 @@
 -- Laws of what is printed into a buffer: nothing, a text, and one place after the other. Assumes nothing.
-use mathlib.Core.Path.{◌≡◌, ap, sym, ◌∙◌}
+use mathlib.Core.Path.{◌≡◌, refl, ap, sym, ◌∙◌}
 use mathlib.Core.List.{List, []}
 use Prim.Native.Nat.{ℕ, ◌+◌, ◌≤◌, ◌<◌}
 use native.Mathlib.Nat.{add-zero}
@@ -21,7 +21,7 @@ use Rattle.script_printout.specs.declared.Stage.TheVariants.{Ended}
 use Rattle.script_printout.specs.declared.Reader.{Reader}
 use Rattle.script_printout.specs.declared.Progress.{Progress}
 use Rattle.script_printout.specs.Printout.{script_box, header, heading, bad_line}
-use Rattle.script_printout.specs.Reader.{Printing, printing, reader_of, reader_behind, stopped, header_end, line_end, placed_of, placed, OnEveryBox}
+use Rattle.script_printout.specs.Reader.{Printing, printing, reader_of, reader_behind, stopped, header_end, line_end, placed_of, placed, placed_unaltered, OnEveryBox}
 use Rattle.script_printout.proofs.TextLaw.{heading_size, bad_line_size}
 use Rattle.script_printout.proofs.ReaderLaw.{header_whole, line_right}
 
@@ -35,6 +35,10 @@ placed_text p r s text out out' at e f g = cc
 pub placed_none : (p : Progress) (r : Reader) (s : Box) (out : List ℕ) (at : ℕ) → p.reader ≡ r → p.end ≡ at
     → placed_of p s out ≡ placed out at (printing r s [])
 placed_none p r s out at e f = placed_text p r s [] out out at e (sym (replaced_none out at)) (f ∙ sym (add-zero at))
+
+-- nothing at the start of a buffer leaves it as it is
+pub nothing_placed : (r : Reader) (s : Box) (out : List ℕ) → placed_unaltered r s out ≡ placed out 0 (printing r s [])
+nothing_placed r s out = placed_none (record { reader = r; end = 0 }) r s out 0 refl refl
 
 -- ---- on every box, and within a line
 

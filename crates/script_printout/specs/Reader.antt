@@ -1,6 +1,6 @@
 -- The reader: what is kept between two pieces of the input, and what a byte prints. That the pieces print the printout is the claim
 -- PiecesPrinted. Assumes nothing: these are definitions.
-use Rattle.std.specs.Prelude.{◌≡◌, Bool, true, false, ◌&&◌, List, [], ◌∷◌, ◌++◌, ℕ, ◌+◌, ◌*◌, min, length, get_or, eqb, ltb, leb, Some, None}
+use Rattle.std.specs.Prelude.{◌≡◌, Bool, true, false, ◌&&◌, List, [], ◌∷◌, ◌++◌, ℕ, ◌+◌, ◌*◌, min, length, get_or, eqb, ltb, leb, Option, Some, None}
 use Rattle.octets.specs.Part.{replaced}
 use Rattle.machine.specs.Command.{Box}
 use Rattle.script_lines.specs.declared.Line.{Line}
@@ -117,6 +117,10 @@ pub record Placed : Type 0 where
 abbrev pub placed_of : Progress → Box → List ℕ → Placed
 placed_of p box out = record { reader = p.reader; box = box; out = out; end = p.end }
 
+-- nothing is read or printed
+abbrev pub placed_unaltered : Reader → Box → List ℕ → Placed
+placed_unaltered r box out = record { reader = r; box = box; out = out; end = 0 }
+
 unfoldable pub placed : List ℕ → ℕ → Printing → Placed
 placed out at p = record { reader = p.reader; box = p.box; out = replaced out at p.printed; end = at + length p.printed }
 
@@ -129,8 +133,10 @@ pub record Fed : Type 0 where
   pub taken : Bool
   pub placed : Placed
 
-abbrev pub fed_of : Bool → Progress → Box → List ℕ → Fed
-fed_of taken p box out = record { taken = taken; placed = placed_of p box out }
+-- what it answers, with the box and the buffer that it leaves. Where it answers none, the reader is as it was: r
+abbrev pub fed_of : Reader → Option Progress → Box → List ℕ → Fed
+fed_of r (Some p) box out = record { taken = true; placed = placed_of p box out }
+fed_of r None box out = record { taken = false; placed = placed_unaltered r box out }
 
 unfoldable pub fed : Reader → Box → List ℕ → List ℕ → Fed
 fed r s piece out =
