@@ -24,7 +24,7 @@ const ENTRY_KIND: u32 = 2;
 const PAGE_KIND: u32 = 3;
 
 // What is printed of an answer: its number, and the state and time left of an entry.
-#[derive(Clone, Copy)]
+#[derive(Clone, Copy, Debug, PartialEq, Eq)]
 pub struct Shown {
     pub number: u32,
     pub state: u8,
@@ -55,30 +55,22 @@ fn send(
         proof,
         &mut answer,
     );
-    if v.kind != ENTRY_KIND {
+    if v.kind != ENTRY_KIND || number != machine::ACCEPTED {
         return Shown {
-            number: number,
+            number,
             state: 0,
             left: 0,
         };
     }
-    if number != machine::ACCEPTED {
-        return Shown {
-            number: number,
-            state: 0,
-            left: 0,
-        };
-    }
-    let state = octets::load_u8(&answer, ENTRY_SIZE + TIME_LEFT_SIZE);
-    let left = octets::load_i64(&answer, ENTRY_SIZE);
     Shown {
-        number: number,
-        state: state,
-        left: left,
+        number,
+        state: octets::load_u8(&answer, ENTRY_SIZE + TIME_LEFT_SIZE),
+        left: octets::load_i64(&answer, ENTRY_SIZE),
     }
 }
 
 // Gets page 0, with its tag, by kind 3 at the last time.
+#[tactic(auto, unfolding(crate::specs::Answer::page_got))]
 fn get_page(
     memory: &mut [u8; MEMORY_SIZE],
     disk: &mut [u8; GROUP_SIZE],
