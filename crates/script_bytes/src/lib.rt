@@ -55,7 +55,7 @@ fn end_header(number: u64, k: usize, out: &mut [u8], at: usize) -> Progress
     requires { at + most_printed ≤ length out.old }
     ensures { OnEveryBox (header_end number k) out.old at result out.new × (result.end ≤ at + most_printed) }
 {
-    if k != texts::HEADER_SIZE {
+    if k != texts::HEADER.len() {
         return stop(number, out, at);
     }
     Progress {

@@ -5,21 +5,19 @@ ghost use Rattle.script_printout.specs.Printout.{header, heading, bad_line};
 
 use script_lines::NEWLINE;
 
-pub(crate) const HEADER_SIZE: usize = 20;
+// The script's first line.
+pub(crate) const HEADER: &[u8] = b"kind block now value";
 
 const HEADING_SIZE: usize = 33;
 
 const BAD_SIZE: usize = 9;
 
 // Whether a byte is the header's at place k.
+#[tactic(auto, unfolding(script_printout::specs::Printout::header))]
 pub(crate) fn is_header_byte(k: usize, byte: u8) -> bool
     ensures { result ≡ (ltb k (length header) && eqb (get_or header k 0) byte) }
 {
-    let text = b"kind block now value";
-    if HEADER_SIZE <= k {
-        return false;
-    }
-    text[k] == byte
+    HEADER.get(k) == Some(&byte)
 }
 
 // Puts the printout's first line into out from place at on, and answers the place behind it.
