@@ -31,17 +31,7 @@ pub fn kind_numbered(n: u32, value: u32) -> Kind
 pub(crate) fn is_known(k: Kind) -> bool
     ensures { result ≡ passes (question3 present k) }
 {
-    match k {
-        Kind::Read => true,
-        Kind::Entry => true,
-        Kind::Page => true,
-        Kind::Change(_) => true,
-        Kind::Sync => true,
-        Kind::Restart => true,
-        Kind::NewSalt => true,
-        Kind::Identify => true,
-        Kind::Unknown => false,
-    }
+    !matches!(k, Kind::Unknown)
 }
 
 // The length of the content that a kind brings.
@@ -49,25 +39,9 @@ pub fn content_length(k: Kind) -> usize
     ensures { result ≡ content_length present k }
 {
     match k {
-        Kind::Read => 0,
-        Kind::Entry => 0,
-        Kind::Page => 0,
-        Kind::Change(u) => update_length(u),
-        Kind::Sync => 0,
-        Kind::Restart => 0,
+        Kind::Change(Update::Write(_)) => addressing::BLOCK_SIZE,
         Kind::NewSalt => memory::layout::SALT_SIZE,
-        Kind::Identify => 0,
-        Kind::Unknown => 0,
-    }
-}
-
-fn update_length(u: Update) -> usize
-    ensures { result ≡ content_length present (Kind.Change u) }
-{
-    match u {
-        Update::Write(_) => addressing::BLOCK_SIZE,
-        Update::Unfreeze => 0,
-        Update::Increment(_) => 0,
+        _ => 0,
     }
 }
 
@@ -76,14 +50,7 @@ pub fn proof_length(k: Kind) -> usize
     ensures { result ≡ proof_length present k }
 {
     match k {
-        Kind::Read => 0,
-        Kind::Entry => 0,
-        Kind::Page => 0,
         Kind::Change(_) => tags::PROOF_SIZE,
-        Kind::Sync => 0,
-        Kind::Restart => 0,
-        Kind::NewSalt => 0,
-        Kind::Identify => 0,
-        Kind::Unknown => 0,
+        _ => 0,
     }
 }

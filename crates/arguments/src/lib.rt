@@ -12,11 +12,12 @@ ghost use Rattle.lockpage.specs.Page.{entry_at};
 ghost use Rattle.addressing.specs.Map.{place_of};
 ghost use Rattle.memory.specs.Layout.{memory_size};
 ghost use Rattle.machine.specs.Command.{kind_numbered, proof_size, brought_page};
+ghost use Rattle.machine.specs.Refusal.{number_of};
 ghost use Rattle.machine.specs.Question.{question2, question4, question5, question6, passes, first_no};
 ghost use Rattle.arguments.specs.ArgumentQuestions.{argument_questions};
 
 use lockpage::Entry;
-use machine::Kind;
+use machine::{Kind, Refusal};
 
 // Question 2.
 pub fn disk_fits(memory: &[u8], disk: &[u8]) -> bool
@@ -43,15 +44,9 @@ fn is_inside(k: Kind, groups: u32, block: u32) -> bool
 {
     let blocks = addressing::data_blocks(groups);
     match k {
-        Kind::Read => (block as usize) < blocks,
-        Kind::Entry => (block as usize) < blocks,
+        Kind::Read | Kind::Entry | Kind::Change(_) => (block as usize) < blocks,
         Kind::Page => block < groups,
-        Kind::Change(_) => (block as usize) < blocks,
-        Kind::Sync => true,
-        Kind::Restart => true,
-        Kind::NewSalt => true,
-        Kind::Identify => true,
-        Kind::Unknown => true,
+        _ => true,
     }
 }
 
@@ -68,9 +63,10 @@ fn is_sized(k: Kind, content: &[u8], proof: &[u8], answer: &[u8]) -> bool
     answer.len() == tags::ANSWER_SIZE
 }
 
-// The number of the first of them that says no, or 0. The kind is found anew for question 5: a compiler makes one jump
+// The first of them that says no refuses. The kind is found anew for question 5: a compiler makes one jump
 // of both.
-pub fn refusal(
+#[tactic(auto, using(crate::proofs::ArgumentLaw::asked_in_order))]
+pub fn check(
     memory: &[u8],
     disk: &[u8],
     kind: u32,
@@ -80,31 +76,32 @@ pub fn refusal(
     content: &[u8],
     proof: &[u8],
     answer: &[u8],
-) -> u32
+) -> Result<(), Refusal>
     requires { length memory.now ≡ memory_size present }
-    ensures { result ≡ first_no (argument_questions present (kind_numbered kind value) memory.now disk.now block time
+    ensures { number_of result ≡ first_no (argument_questions present (kind_numbered kind value) memory.now disk.now block time
         content.now proof.now answer.now) }
 {
     if !disk_fits(memory, disk) {
-        return machine::DISK_SIZE_WRONG;
+        return Err(Refusal::DiskSizeWrong);
     }
     if !kinds::is_known(kinds::kind_numbered(kind, value)) {
-        return machine::KIND_UNKNOWN;
+        return Err(Refusal::KindUnknown);
     }
     if !is_timely(memory, time) {
-        return machine::TIME_OUT_OF_RANGE;
+        return Err(Refusal::TimeOutOfRange);
     }
     let k = kinds::kind_numbered(kind, value);
     if !is_inside(k, memory::groups(memory), block) {
-        return machine::ADDRESS_OUT_OF_RANGE;
+        return Err(Refusal::AddressOutOfRange);
     }
     if !is_sized(k, content, proof, answer) {
-        return machine::LENGTH_WRONG;
+        return Err(Refusal::LengthWrong);
     }
-    machine::ACCEPTED
+    Ok(())
 }
 
 // The block's entry on the page brought.
+#[tactic(auto, using(lockpage::proofs::GeometryLaw::present_proper, addressing::proofs::MapLaw::place_of_below), unfolding(machine::specs::Command::brought_page, octets::specs::Part::part))]
 pub fn brought_entry(proof: &[u8], block: u32) -> Entry
     requires { length proof.now ≡ proof_size present }
     ensures { result ≡ entry_at (brought_page present proof.now) (place_of present block) }

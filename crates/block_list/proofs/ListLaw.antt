@@ -1,36 +1,25 @@
--- The numbers of a list, and what question 12 says of it. Assumes nothing.
-use mathlib.Core.Path.{◌≡◌, ap, sym, ◌∙◌}
-use mathlib.Core.Bool.{Bool, false, ◌&&◌}
-use mathlib.Core.List.{List}
-use Prim.Native.Nat.{ℕ, ◌+◌, ◌*◌, ◌≤◌, ◌<◌}
-use native.Mathlib.Omega.{arith}
-use borrow.Author.Tests.{eq-eqb, ne_eqb, le-leb, lt-leb}
-use lib.Dec.{eqb, leb}
-use lib.ListN.{length}
-use Rattle.machine.specs.Query.{number_size, most_numbers, number_count, question12}
-use Rattle.machine.specs.Question.{passes}
+-- The numbers of a list, and whether all are below a limit. Assumes nothing.
+use Rattle.std.proofs.Common.{◌≡◌, true, false, ℕ, ◌+◌, ◌*◌, ◌≤◌, ◌<◌, List, length, ltb, sym, arith}
+use mathlib.Core.List.{all}
+use borrow.Author.Tests.{lt-ltb, le-ltb}
+use Rattle.machine.specs.Query.{number_size, number_count, block_number, numbers}
+use Rattle.machine.proofs.ListedLaw.{all_listed, not_all_listed}
 
 -- a number of the list lies within its bytes
 pub number_within : (blocks : List ℕ) (i : ℕ) → i < number_count blocks → number_size * i + number_size ≤ length blocks
 unfolding number_count
 number_within blocks i h = omega arith
 
--- ---- question 12, as it is asked
+-- ---- whether all are below a limit
 
-module _ (blocks : List ℕ) (n : ℕ) (en : n ≡ number_count blocks) where
-  asked : passes (question12 blocks) ≡ eqb (length blocks) (number_size * n) && (leb 1 n && leb n most_numbers)
-  asked = ap (λ (k : ℕ). eqb (length blocks) (number_size * k) && (leb 1 k && leb k most_numbers)) (sym en)
+pub all_under : (blocks : List ℕ) (limit : ℕ) → ((k : ℕ) → k < number_count blocks → block_number blocks k < limit)
+    → true ≡ all (numbers blocks) (λ a. ltb a limit)
+all_under blocks limit h =
+    sym (all_listed (block_number blocks) (λ a. ltb a limit) 0 (number_count blocks)
+    (λ j a b. lt-ltb (block_number blocks j) limit (h j (omega arith))))
 
-  pub left_over : (length blocks ≡ number_size * n → ⊥) → false ≡ passes (question12 blocks)
-  left_over h = sym (asked ∙ ap (λ (b : Bool). b && (leb 1 n && leb n most_numbers)) (ne_eqb (length blocks) (number_size * n) h))
-
-  -- nothing left over
-  module _ (whole : length blocks ≡ number_size * n) where
-    then : passes (question12 blocks) ≡ leb 1 n && leb n most_numbers
-    then = asked ∙ ap (λ (b : Bool). b && (leb 1 n && leb n most_numbers)) (eq-eqb (length blocks) (number_size * n) whole)
-
-    pub no_number : n < 1 → false ≡ passes (question12 blocks)
-    no_number h = sym (then ∙ ap (λ (b : Bool). b && leb n most_numbers) (lt-leb 1 n h))
-
-    pub some_numbers : 1 ≤ n → leb n most_numbers ≡ passes (question12 blocks)
-    some_numbers h = sym (then ∙ ap (λ (b : Bool). b && leb n most_numbers) (le-leb 1 n h))
+pub one_past : (blocks : List ℕ) (limit i : ℕ) → i < number_count blocks → limit ≤ block_number blocks i
+    → false ≡ all (numbers blocks) (λ a. ltb a limit)
+one_past blocks limit i h past =
+    sym (not_all_listed (block_number blocks) (λ a. ltb a limit) 0 (number_count blocks) i (omega arith) (omega arith)
+    (le-ltb (block_number blocks i) limit past))

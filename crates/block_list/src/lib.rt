@@ -6,10 +6,12 @@ ghost use Rattle.std.specs.Prelude.{◌≡◌, ◌+◌, ◌*◌, ◌≤◌, ltb,
 ghost use mathlib.Core.List.{all};
 ghost use Rattle.lockpage.specs.Geometry.{present};
 ghost use Rattle.machine.specs.Question.{passes};
+ghost use Rattle.machine.specs.Refusal.{number_of};
 ghost use Rattle.machine.specs.Query.{number_size, number_count, block_number, numbers, question12, query_refusal};
 ghost use Rattle.machine.specs.Call.{box_at, query_at};
 
 use lockpage::states;
+use machine::Refusal;
 
 const NUMBER_SIZE: usize = 4;
 
@@ -21,6 +23,7 @@ pub const STATE_SIZE: usize = 1;
 pub const SHOWN_SIZE: usize = STATE_SIZE + states::TIME_LEFT_SIZE;
 
 // How many numbers there are.
+#[tactic(auto, unfolding(machine::specs::Query::number_count))]
 pub fn count(blocks: &[u8]) -> usize
     ensures { result ≡ number_count blocks.now }
 {
@@ -28,6 +31,7 @@ pub fn count(blocks: &[u8]) -> usize
 }
 
 // Number i.
+#[tactic(auto, unfolding(machine::specs::Query::block_number))]
 pub fn number(blocks: &[u8], i: usize) -> u32
     requires { number_size * i + number_size ≤ length blocks.now }
     ensures { result ≡ block_number blocks.now i }
@@ -36,6 +40,7 @@ pub fn number(blocks: &[u8], i: usize) -> u32
 }
 
 // Question 12: whether they are 1 to 64, and no byte is left over.
+#[tactic(auto, unfolding(machine::specs::Query::number_count))]
 fn is_list(blocks: &[u8]) -> bool
     ensures { result ≡ passes (question12 blocks.now) }
 {
@@ -49,44 +54,48 @@ fn is_list(blocks: &[u8]) -> bool
     n <= MOST_NUMBERS
 }
 
-// Whether each is below a limit. All are looked at, so that the loop has one way out.
+// Whether each is below a limit.
 fn all_below(blocks: &[u8], limit: u32) -> bool
     ensures { result ≡ all (numbers blocks.now) (λ a. ltb a limit) }
 {
-    let mut below = true;
-    let mut i = count(blocks);
-    while i > 0 {
-        i -= 1;
+    for i in 0..count(blocks) {
         if number(blocks, i) >= limit {
-            below = false;
+            return false;
         }
     }
-    below
+    true
 }
 
-// The number of the first question that says no to a query, or 0. They are, in order, 1, 2, 4, 12, 5 and 6. The first three are asked here and
+// The first question that says no to a query refuses it. They are, in order, 1, 2, 4, 12, 5 and 6. The first three are asked here and
 // not by arguments::box_questions, so that they are compiled in their place.
-pub fn refusal(memory: &[u8], disk: &[u8], blocks: &[u8], time: u32, answer: &[u8]) -> u32
-    ensures { result ≡ query_refusal present (box_at memory.now disk.now) (query_at blocks.now time answer.now) }
+#[tactic(auto, using(crate::proofs::RefusalLaw::asked), unfolding(machine::specs::Question::first_no, machine::specs::Query::query_refusal))]
+pub fn check(
+    memory: &[u8],
+    disk: &[u8],
+    blocks: &[u8],
+    time: u32,
+    answer: &[u8],
+) -> Result<(), Refusal>
+    ensures { number_of result ≡ query_refusal present (box_at memory.now disk.now) (query_at blocks.now time answer.now) }
 {
     if !validity::valid(memory) {
-        return machine::MEMORY_INVALID;
+        return Err(Refusal::MemoryInvalid);
     }
     if !arguments::disk_fits(memory, disk) {
-        return machine::DISK_SIZE_WRONG;
+        return Err(Refusal::DiskSizeWrong);
     }
     if !arguments::is_timely(memory, time) {
-        return machine::TIME_OUT_OF_RANGE;
+        return Err(Refusal::TimeOutOfRange);
     }
     if !is_list(blocks) {
-        return machine::LIST_SIZE_WRONG;
+        return Err(Refusal::ListSizeWrong);
     }
     let limit = addressing::data_blocks(memory::groups(memory)) as u32;
     if !all_below(blocks, limit) {
-        return machine::ADDRESS_OUT_OF_RANGE;
+        return Err(Refusal::AddressOutOfRange);
     }
     if answer.len() != SHOWN_SIZE * count(blocks) {
-        return machine::LENGTH_WRONG;
+        return Err(Refusal::LengthWrong);
     }
-    machine::ACCEPTED
+    Ok(())
 }

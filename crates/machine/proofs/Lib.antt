@@ -1,4 +1,5 @@
 -- Laws that the theorems and the crates above cite, and the theorems.
+pub mod RefusalLaw
 pub mod CaseLaw
 pub mod KindLaw
 pub mod QuestionLaw

@@ -1,4 +1,5 @@
 -- The controller as definitions, each after those that it needs, and the claims about them.
+pub mod Refusal
 pub mod Command
 pub mod Tag
 pub mod Question

@@ -1,34 +1,48 @@
-// The controller as definitions, specs/, and theorems about them, proofs/. No function: what runs is above this crate.
+// The controller as definitions, specs/, and theorems about them, proofs/. Of what runs, the kinds and the refusals alone: the rest is
+// above this crate.
 #![tactic(auto)]
+
+ghost use Rattle.std.specs.Prelude.{◌≡◌};
+ghost use Rattle.machine.specs.Refusal.{refusal_number, number_of};
 
 use lockpage::Update;
 
-// The numbers answered: the command is accepted, or the question that says no.
-pub const ACCEPTED: u32 = 0;
+// Why a call is refused: the question that says no, by its number. The version store asks the last two.
+#[derive(Clone, Copy, Debug, PartialEq, Eq)]
+pub enum Refusal {
+    MemoryInvalid = 1,
+    DiskSizeWrong = 2,
+    KindUnknown = 3,
+    TimeOutOfRange = 4,
+    AddressOutOfRange = 5,
+    LengthWrong = 6,
+    TagWrong = 7,
+    CountExhausted = 8,
+    StateWrong = 9,
+    LimitExceeded = 10,
+    SaltUnchanged = 11,
+    ListSizeWrong = 12,
+    PartOutOfRange = 13,
+    TooFewFree = 14,
+}
 
-pub const MEMORY_INVALID: u32 = 1;
+impl From<Refusal> for u32 {
+    ghost from_gives = { λ r n. n ≡ refusal_number r };
 
-pub const DISK_SIZE_WRONG: u32 = 2;
+    fn from(refusal: Refusal) -> u32 {
+        refusal as u32
+    }
+}
 
-pub const KIND_UNKNOWN: u32 = 3;
-
-pub const TIME_OUT_OF_RANGE: u32 = 4;
-
-pub const ADDRESS_OUT_OF_RANGE: u32 = 5;
-
-pub const LENGTH_WRONG: u32 = 6;
-
-pub const TAG_WRONG: u32 = 7;
-
-pub const COUNT_EXHAUSTED: u32 = 8;
-
-pub const STATE_WRONG: u32 = 9;
-
-pub const LIMIT_EXCEEDED: u32 = 10;
-
-pub const SALT_UNCHANGED: u32 = 11;
-
-pub const LIST_SIZE_WRONG: u32 = 12;
+// The number answered: 0 where the call is accepted, and else its refusal's.
+pub fn number(answer: Result<(), Refusal>) -> u32
+    ensures { result ≡ number_of answer }
+{
+    match answer {
+        Ok(()) => 0,
+        Err(refusal) => u32::from(refusal),
+    }
+}
 
 // What a command asks for. Kinds 4, 5 and 6 change a page.
 #[derive(Clone, Copy)]

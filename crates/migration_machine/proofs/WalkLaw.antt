@@ -2,7 +2,7 @@
 use mathlib.Core.Path.{◌≡◌, refl, ap, ap₂, ◌∙◌}
 use mathlib.Core.Bool.{Bool, true, false, ◌&&◌, not}
 use mathlib.Core.List.{List, [], ◌∷◌, any, flat_map}
-use mathlib.Core.Option.{Option, none}
+use Rattle.std.specs.Prelude.{Option, None}
 use Prim.Native.Nat.{ℕ, zero, suc}
 use lib.Dec.{eqb, leb}
 use lib.ListN.{length}
@@ -69,7 +69,7 @@ module _ {γ : Geometry} (σ : Proper γ) {n : ℕ} (ω : Wider γ n) (ρ : Rang
 
   recovered_moves : recovered (widened γ n) ρ (moved_box γ n s) point now ≡ recovered γ ρ s point now
   unfolding recovered
-  recovered_moves = ap₂ (λ (test : Record → Bool) (xs : List Record). told (λ part. none) (those test xs)) counts_move records_move
+  recovered_moves = ap₂ (λ (test : Record → Bool) (xs : List Record). told (λ part. None) (those test xs)) counts_move records_move
 
   questions_move : (result : List ℕ) → recover_questions (widened γ n) (moved_box γ n s) now result ≡ recover_questions γ s now result
   unfolding recover_questions

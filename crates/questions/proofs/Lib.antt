@@ -1,3 +1,2 @@
 -- The laws that proofs cite.
-pub mod ChangeLaw
 pub mod RefusalLaw

@@ -1,6 +1,6 @@
 -- All questions in order, from the parts that the code asks together. Assumes nothing.
-use mathlib.Core.Path.{◌≡◌, refl, ap, sym, ◌∙◌}
-use mathlib.Core.Bool.{Bool, true, false, not, ◌&&◌, false≢true}
+use mathlib.Core.Path.{◌≡◌, refl, sym, ◌∙◌}
+use mathlib.Core.Bool.{true, ◌&&◌}
 use mathlib.Mathlib.Data.Bool.Basic.{and_elim_left, and_elim_right}
 use mathlib.Core.List.{List, [], ◌∷◌}
 use Prim.Native.Nat.{ℕ}
@@ -9,21 +9,20 @@ use borrow.Author.Tests.{eqb-true, leb-true, ltb-true}
 use lib.Dec.{eqb, leb}
 use lib.ListN.{length}
 use Rattle.octets.specs.Part.{equal}
-use Rattle.octets.proofs.EqualLaw.{equal_true, equal_yes, equal_no}
+use Rattle.octets.proofs.EqualLaw.{equal_iff}
 use Rattle.lockpage.specs.Geometry.{Geometry, Proper}
 use Rattle.lockpage.specs.declared.Update.{Update}
 use Rattle.lockpage.specs.Update.{latest_time}
 use Rattle.addressing.specs.Map.{data_blocks, group_of}
 use Rattle.addressing.proofs.MapLaw.{group_of_below}
 use Rattle.memory.specs.Layout.{memory_size}
-use Rattle.memory.specs.Memory.{salt, last_time, groups}
-use Rattle.validity.specs.Valid.{valid}
+use Rattle.memory.specs.Memory.{last_time, groups}
 use Rattle.validity.proofs.ValidLaw.{facts}
 use Rattle.machine.specs.declared.Kind.{Kind}
 use Rattle.machine.specs.declared.Kind.TheVariants.{Read, Entry, Page, Change, Sync, Restart, NewSalt, Identify, Unknown}
 use Rattle.machine.specs.Command.{Box, Command, proof_size, answer_size, brought_entry}
-use Rattle.machine.specs.Question.{Question, question1, question7, question8, question9, question10, question11, content_length, questions_to, first_no, AllYes}
-use Rattle.machine.proofs.QuestionLaw.{numbered_to, accepted_yes, passes_on, says_no, goes_on, ends, not_put_last}
+use Rattle.machine.specs.Question.{Question, question7, question8, question9, question10, question11, content_length, questions_to, first_no, AllYes}
+use Rattle.machine.proofs.QuestionLaw.{numbered_to, accepted_yes, passes_on, ends, not_put_last}
 use Rattle.arguments.specs.ArgumentQuestions.{argument_questions}
 use Rattle.questions.specs.FirstQuestions.{first_questions}
 use Rattle.questions.specs.ChangeQuestions.{change_questions}
@@ -45,33 +44,12 @@ module _ (γ : Geometry) where
       ∷ question11 γ k s.memory c.content
       ∷ []
 
+-- the new salt is compared with the present one, either way round
+pub equal_swapped : (a b : List ℕ) → equal a b ≡ equal b a
+equal_swapped a b = equal_iff a b b a sym sym
+
 -- γ is any proper geometry
 module _ {γ : Geometry} (σ : Proper γ) where
-  -- ---- a new salt
-
-  module _ (m content : List ℕ) (r : Bool) (e : r ≡ equal (salt m) content) where
-    pub same_salt : r ≡ true → 11 ≡ first_no (question11 γ NewSalt m content ∷ [])
-    same_salt h =
-        let same = equal_true (salt m) content (sym e ∙ h) in
-        says_no 11 (question11 γ NewSalt m content) [] false refl (sym (ap not (equal_yes content (salt m) (sym same)))) refl
-
-    pub other_salt : r ≡ false → 0 ≡ first_no (question11 γ NewSalt m content ∷ [])
-    unfolding first_no
-    other_salt h =
-        let other = equal_no content (salt m) (λ s. false≢true (sym h ∙ e ∙ equal_yes (salt m) content (sym s))) in
-        goes_on (question11 γ NewSalt m content) [] true (sym (ap not other)) refl
-
-  -- ---- question 1, then 2 to 6
-
-  -- r is the answer to question 1
-  module _ (k : Kind) (s : Box) (c : Command) (r : Bool) (e : r ≡ valid γ s.memory) where
-    pub invalid_refused : not r ≡ true → 1 ≡ first_no (first_questions γ k s c)
-    invalid_refused h = says_no 1 (question1 γ s.memory) (arguments γ k s c) r refl e h
-
-    -- n is the number that the next five gave
-    pub arguments_answer : not r ≡ false → (n : ℕ) → n ≡ first_no (arguments γ k s c) → n ≡ first_no (first_questions γ k s c)
-    arguments_answer v n en = en ∙ goes_on (question1 γ s.memory) (arguments γ k s c) r e v
-
   first_numbered : (k : Kind) (s : Box) (c : Command) → numbered_to 6 (first_questions γ k s c) ≡ true
   unfolding numbered_to
   first_numbered Read s c = refl

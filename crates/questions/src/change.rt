@@ -4,11 +4,13 @@ ghost use Rattle.lockpage.specs.Geometry.{present};
 ghost use Rattle.memory.specs.Memory.{count};
 ghost use Rattle.memory.specs.Ready.{HasCount};
 ghost use Rattle.validity.specs.Valid.{count_limit};
+ghost use Rattle.machine.specs.Refusal.{number_of};
 ghost use Rattle.machine.specs.Question.{first_no};
 ghost use Rattle.questions.specs.ChangeQuestions.{change_questions};
 ghost use Rattle.questions.specs.Ready.{UpdateReady};
 
 use lockpage::{Update, states, updates};
+use machine::Refusal;
 
 // Question 8.
 fn is_unexhausted(memory: &[u8], group: u32) -> bool
@@ -18,11 +20,12 @@ fn is_unexhausted(memory: &[u8], group: u32) -> bool
     memory::count(memory, group) < validity::COUNT_LIMIT
 }
 
-// The number of the first of questions 7 to 10 that says no, or 0. All are answered first: question 7 makes one tag, and the others cost
+// The first of questions 7 to 10 that says no refuses. All are answered first: question 7 makes one tag, and the others cost
 // a few comparisons.
-pub fn refusal(memory: &[u8], u: Update, block: u32, time: u32, proof: &[u8]) -> u32
+#[tactic(auto, unfolding(machine::specs::Question::first_no))]
+pub fn check(memory: &[u8], u: Update, block: u32, time: u32, proof: &[u8]) -> Result<(), Refusal>
     requires { UpdateReady present memory.now block time proof.now }
-    ensures { result ≡ first_no (change_questions present u memory.now block time proof.now) }
+    ensures { number_of result ≡ first_no (change_questions present u memory.now block time proof.now) }
 {
     let group = addressing::group_of(block);
     let e = arguments::brought_entry(proof, block);
@@ -31,16 +34,16 @@ pub fn refusal(memory: &[u8], u: Update, block: u32, time: u32, proof: &[u8]) ->
     let allowed = updates::allowed(u, states::state(e, time));
     let within = updates::within_limit(u, time, e);
     if !matches {
-        return machine::TAG_WRONG;
+        return Err(Refusal::TagWrong);
     }
     if !unexhausted {
-        return machine::COUNT_EXHAUSTED;
+        return Err(Refusal::CountExhausted);
     }
     if !allowed {
-        return machine::STATE_WRONG;
+        return Err(Refusal::StateWrong);
     }
     if !within {
-        return machine::LIMIT_EXCEEDED;
+        return Err(Refusal::LimitExceeded);
     }
-    machine::ACCEPTED
+    Ok(())
 }

@@ -2,7 +2,7 @@
 use mathlib.Core.Path.{◌≡◌, refl, ap, sym, ◌∙◌}
 use mathlib.Core.Bool.{Bool, true, false}
 use mathlib.Core.List.{List, [], ◌∷◌}
-use mathlib.Core.Option.{none}
+use Rattle.std.specs.Prelude.{None}
 use Prim.Native.Nat.{ℕ}
 use borrow.Author.Tests.{eq-eqb, ne_eqb, eqb-true}
 use lib.Dec.{eqb}
@@ -95,7 +95,7 @@ module _ (γ : Geometry) (s : Box) (now : ℕ) (result : List ℕ) where
 -- ---- the result
 
 pub result_cleared : (l m : List ℕ) → length l ≡ result_size → m ≡ replaced l 0 (repeated result_size unused)
-    → m ≡ newest_bytes (λ part. none) 0 parts
+    → m ≡ newest_bytes (λ part. None) 0 parts
 result_cleared l m size e =
     e
     ∙ replaced_all l (repeated result_size unused) (repeated_length result_size unused ∙ sym size)

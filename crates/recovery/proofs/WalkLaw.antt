@@ -2,7 +2,7 @@
 use mathlib.Core.Path.{◌≡◌, refl, ap, ap₂, sym, subst, ◌∙◌}
 use mathlib.Core.Bool.{Bool, true, false, ◌&&◌, not}
 use mathlib.Core.List.{List, [], ◌∷◌, any, flat_map}
-use mathlib.Core.Option.{Option, none}
+use Rattle.std.specs.Prelude.{Option, None}
 use Prim.Native.Nat.{ℕ, suc, ◌-◌, ◌*◌, ◌/◌, ◌≤◌, ◌<◌}
 use native.Mathlib.Omega.{arith}
 use borrow.Author.Tests.{le-leb, lt-leb, not-true, not-false}
@@ -126,16 +126,16 @@ module _ (γ : Geometry) (s : Box) (point now : ℕ) where
     pub still : rest newest (walk_from γ ρ s point now walked parent next left) ≡ recovered γ ρ s point now
 
   pub walk_start : (result marks : List ℕ) (end : ℕ) → end ≡ data_blocks γ (groups γ s.memory) → length marks ≡ marks_size γ → Marks marks []
-      → result ≡ newest_bytes (λ part. none) 0 parts → Walking result marks end 0 0
+      → result ≡ newest_bytes (λ part. None) 0 parts → Walking result marks end 0 0
   unfolding recovered walked_records walk
   walk_start result marks end e size are empty =
       record {
         walked = [];
-        newest = λ part. none;
+        newest = λ part. None;
         marks_size_is = size;
         marks_are = are;
         result_is = empty;
-        still = ap (λ (n : ℕ). rest (λ part. none) (walk_from γ ρ s point now [] 0 0 n)) e;
+        still = ap (λ (n : ℕ). rest (λ part. None) (walk_from γ ρ s point now [] 0 0 n)) e;
       }
 
   module _ (result marks : List ℕ) (left parent next : ℕ) (w : Walking result marks left parent next) where

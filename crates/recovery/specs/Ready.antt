@@ -1,6 +1,5 @@
 -- What the functions of this crate ask for, and what a block's records make of a result. Assumes nothing: these are definitions.
-use Rattle.std.specs.Prelude.{◌≡◌, Bool, ◌&&◌, not, List, ℕ, ◌/◌, ◌<◌, length, leb}
-use Rattle.std.proofs.Math.Option.{Option, none}
+use Rattle.std.specs.Prelude.{◌≡◌, Bool, ◌&&◌, not, List, ℕ, ◌/◌, ◌<◌, length, leb, Option, None}
 use Rattle.lockpage.specs.Geometry.{Geometry}
 use Rattle.lockpage.specs.Size.{block_size}
 use Rattle.lockpage.specs.declared.Entry.{Entry}
@@ -47,7 +46,7 @@ module _ (γ : Geometry) where
   -- a result that has no block yet
   pub record WalkReady (s : Box) (result : List ℕ) : Type 0 where
     pub box : ValidBox γ s
-    pub empty : result ≡ newest_bytes (λ part. none) 0 parts
+    pub empty : result ≡ newest_bytes (λ part. None) 0 parts
 
   -- the result has what these records say besides, those of them that count
   abbrev pub Takes : Box → ℕ → ℕ → List Record → List ℕ → List ℕ → Type 0

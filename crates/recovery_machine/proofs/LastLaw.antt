@@ -3,7 +3,7 @@ use mathlib.Core.Path.{◌≡◌, refl, ap, sym, ◌∙◌}
 use mathlib.Core.Bool.{Bool, true, false}
 use mathlib.Core.Logic.{◌⊎◌, inl, inr, ⊎_elim}
 use mathlib.Core.List.{List, [], ◌∷◌}
-use mathlib.Core.Option.{Option, some}
+use Rattle.std.specs.Prelude.{Option, Some}
 use Prim.Native.Nat.{ℕ}
 use Rattle.machine.proofs.CaseLaw.{same_or_not}
 use Rattle.versions_machine.specs.Versions.{Record, record_of, replaced_by}
@@ -24,8 +24,8 @@ module _ (test : Record → Bool) (p : ℕ) where
   -- the last that is the part's has this block
   record Last (xs : List Record) : Type 0 where
     block : ℕ
-    of_all : (f : Map) → told f xs p ≡ some block
-    of_those : test (record_of p block) ≡ true → (f : Map) → told f (those test xs) p ≡ some block
+    of_all : (f : Map) → told f xs p ≡ Some block
+    of_those : test (record_of p block) ≡ true → (f : Map) → told f (those test xs) p ≡ Some block
 
   -- what holds of the records told, with one more in front or without it, holds of those that pass
   in_front_lem : (x : Record) (xs : List Record) (P : Option ℕ → Type 0) (f : Map) → P (told (replaced_by f x.part x.block) (those test xs) p)
@@ -43,7 +43,7 @@ module _ (test : Record → Bool) (p : ℕ) where
 
   last_here : (x : Record) (xs : List Record) → p ≡ x.part → Absent xs → Last (x ∷ xs)
   last_here x xs e h =
-      let here : (f : Map) → replaced_by f x.part x.block p ≡ some x.block =
+      let here : (f : Map) → replaced_by f x.part x.block p ≡ Some x.block =
       λ f. ap (replaced_by f x.part x.block) e ∙ newest_own f x.part x.block in
       record {
         block = x.block;
@@ -71,7 +71,7 @@ module _ (test : Record → Bool) (p : ℕ) where
         of_all = λ f. h.of_all (replaced_by f x.part x.block);
         of_those =
             λ passes f.
-            in_front_lem x xs (λ (o : Option ℕ). o ≡ some h.block) f (h.of_those passes (replaced_by f x.part x.block)) (h.of_those passes f);
+            in_front_lem x xs (λ (o : Option ℕ). o ≡ Some h.block) f (h.of_those passes (replaced_by f x.part x.block)) (h.of_those passes f);
       }
 
   absent_or_last : (xs : List Record) → Absent xs ⊎ Last xs
@@ -82,7 +82,7 @@ module _ (test : Record → Bool) (p : ℕ) where
       (absent_or_last xs)
 
   -- where the part's last record passes, or there is none
-  pub told_those : (f : Map) (xs : List Record) → ((b : ℕ) → told f xs p ≡ some b → test (record_of p b) ≡ true)
+  pub told_those : (f : Map) (xs : List Record) → ((b : ℕ) → told f xs p ≡ Some b → test (record_of p b) ≡ true)
       → told f (those test xs) p ≡ told f xs p
   told_those f xs passes =
       ⊎_elim (λ h. h.of_those f ∙ sym (h.of_all f))

@@ -2,7 +2,7 @@
 -- what a restart and an unfreeze do to it. Assumes nothing.
 use mathlib.Core.Path.{◌≡◌, refl, ap, sym, subst, ◌∙◌}
 use mathlib.Core.List.{List}
-use mathlib.Core.Option.{Option, some, none}
+use Rattle.std.specs.Prelude.{Option, Some, None}
 use Prim.Native.Nat.{ℕ, ◌+◌, ◌≤◌, ◌<◌}
 use native.Mathlib.Omega.{arith}
 use lib.ListN.{length}
@@ -163,11 +163,11 @@ module _ {γ : Geometry} (σ : Proper γ) where
         }
 
     -- the map has the put's block
-    newest_is : (synced γ u).versions.newest part ≡ some 1
+    newest_is : (synced γ u).versions.newest part ≡ Some 1
     unfolding entered start
     newest_is =
         ap (λ (f : ℕ → Option ℕ). f part) (point_newest σ u stored_at_point ∙ ap (λ (x : Site). x.versions.newest) used_is)
-        ∙ newest_own (λ k. none) part 1
+        ∙ newest_own (λ k. None) part 1
 
     -- so each premise is met, and the result names that block
     pub premises_met : (now : ℕ) (result : List ℕ) → point < now → now < point + lock → now ≤ latest_time → length result ≡ result_size

@@ -2,7 +2,7 @@
 -- Assumes nothing.
 use mathlib.Core.Path.{◌≡◌, ap, sym, subst, ◌∙◌}
 use mathlib.Core.List.{List, [], ◌∷◌, ◌++◌}
-use mathlib.Core.Option.{Option, some}
+use Rattle.std.specs.Prelude.{Option, Some}
 use Prim.Native.Nat.{ℕ, ◌≤◌}
 use native.Mathlib.Omega.{arith}
 use Rattle.octets.specs.Part.{AreBytes}
@@ -69,7 +69,7 @@ module _ {γ : Geometry} (σ : Proper γ) (u : Use) (k : StoredAtPoint γ u) whe
   point_newest = flush_keeps_newest σ (range γ u) (used γ u).versions (used γ u).box u.point
 
   -- a block that it has was answered by the part's last accepted put, and has its content
-  pub point_put : (part b : ℕ) → (synced γ u).versions.newest part ≡ some b
+  pub point_put : (part b : ℕ) → (synced γ u).versions.newest part ≡ Some b
       → (content : List ℕ) × Newest γ (range γ u) (started γ u) u.calls part b content × (content_of γ (synced γ u).box b ≡ content)
   unfolding KnownIsNewest NewestReadsBack
   point_put part b e =

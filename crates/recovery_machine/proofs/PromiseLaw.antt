@@ -4,7 +4,7 @@ use mathlib.Core.Path.{◌≡◌, refl, ap, sym, subst, ◌∙◌}
 use mathlib.Core.Bool.{Bool, true, false, ◌&&◌}
 use mathlib.Mathlib.Data.Bool.Basic.{and_intro}
 use mathlib.Core.List.{List, [], ◌∷◌, ◌++◌, append-nil}
-use mathlib.Core.Option.{some, none}
+use Rattle.std.specs.Prelude.{Some, None}
 use Prim.Native.Nat.{ℕ, ◌+◌, ◌^◌, ◌≤◌, ◌<◌}
 use native.Mathlib.Omega.{arith}
 use borrow.Author.Tests.{le-leb, lt-leb}
@@ -152,7 +152,7 @@ module _ {γ : Geometry} (σ : Proper γ) (u : Use) (k : StoredAtPoint γ u) (es
         by tells.distinct stops
 
     -- the newest version's record counts
-    newest_counts : (part b : ℕ) → (synced γ u).versions.newest part ≡ some b → test (record_of part b) ≡ true
+    newest_counts : (part b : ℕ) → (synced γ u).versions.newest part ≡ Some b → test (record_of part b) ≡ true
     unfolding counts
     newest_counts part b e =
         let v = tells.held part b e in
@@ -161,24 +161,24 @@ module _ {γ : Geometry} (σ : Proper γ) (u : Use) (k : StoredAtPoint γ u) (es
         (still_kept σ t u.point u.lock at_point b v.written v.holds v.under es later.unforged now timely same_groups early
         (omega (arith, v.early, at_point.time))))
 
-    all_told : (part : ℕ) → (synced γ u).versions.newest part ≡ told (λ p. none) (records_of tells.links) part
+    all_told : (part : ℕ) → (synced γ u).versions.newest part ≡ told (λ p. None) (records_of tells.links) part
     all_told part =
         tells.tells part
-        ∙ ap (λ (xs : List Record). told (λ p. none) xs part)
+        ∙ ap (λ (xs : List Record). told (λ p. None) xs part)
         (ap (λ (xs : List Record). records_of tells.links ++ xs) (point_stored σ u k) ∙ append-nil (records_of tells.links))
 
     pub recovers : (part : ℕ) → recovered γ (range γ u) end u.point now part ≡ (synced γ u).versions.newest part
     unfolding recovered
     recovers part =
-        ap (λ (xs : List Record). told (λ p. none) xs part) records_are
-        ∙ told_those test part (λ p. none) (records_of tells.links) (λ b e. newest_counts part b (all_told part ∙ e))
+        ap (λ (xs : List Record). told (λ p. None) xs part) records_are
+        ∙ told_those test part (λ p. None) (records_of tells.links) (λ b e. newest_counts part b (all_told part ∙ e))
         ∙ sym (all_told part)
 
     -- ---- a part that is named
 
-    pub part_reads : (part b : ℕ) → recovered γ (range γ u) end u.point now part ≡ some b → PartReads γ u end part b
+    pub part_reads : (part b : ℕ) → recovered γ (range γ u) end u.point now part ≡ Some b → PartReads γ u end part b
     part_reads part b e =
-        let known : (synced γ u).versions.newest part ≡ some b = sym (recovers part) ∙ e in
+        let known : (synced γ u).versions.newest part ≡ Some b = sym (recovers part) ∙ e in
         let v = tells.held part b known in
         let found = point_put σ u k part b known in
         record {

@@ -1,8 +1,7 @@
 -- The premises of Q-6's promise can be met: on every box that is formatted, one part put, the log stored and the box synced, and then an
 -- intruder's restart and unfreeze, which are accepted. The result then names the part's block. The claim is a type; its proof has the
 -- claim's name in proofs/Theorems.antt.
-use Rattle.std.specs.Prelude.{◌≡◌, List, [], ◌∷◌, ℕ, ◌+◌, ◌≤◌, ◌<◌, length}
-use Rattle.std.proofs.Math.Option.{some}
+use Rattle.std.specs.Prelude.{◌≡◌, List, [], ◌∷◌, ℕ, ◌+◌, ◌≤◌, ◌<◌, length, Some}
 use Rattle.octets.specs.Part.{AreBytes, repeated}
 use Rattle.lockpage.specs.Geometry.{Geometry}
 use Rattle.lockpage.specs.Size.{block_size}
@@ -55,7 +54,7 @@ module _ (γ : Geometry) where
     pub restart_passes : Accepted γ (synced γ u).box (plain 8 (u.point + 1))
     pub unfreeze_passes : Accepted γ (restarted u) (unfreeze u)
     pub accepted : AcceptedRecovery γ (range γ u) (intruded γ u (attack u)) u.point now result
-    pub named : recovered γ (range γ u) (intruded γ u (attack u)) u.point now part ≡ some 1
+    pub named : recovered γ (range γ u) (intruded γ u (attack u)) u.point now part ≡ Some 1
 
   unfoldable pub PremisesCanBeMet : Type 0
   PremisesCanBeMet = (s : Box) (g : ℕ) (salt : List ℕ) (lock part point now : ℕ) (content result : List ℕ) → ByteBox s → AreBytes salt

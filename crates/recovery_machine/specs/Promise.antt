@@ -2,8 +2,7 @@
 -- its log and synced at X, and all later commands are timed after X, under demand 3's premises, then at clocks before X + R the result is
 -- the keeper's own map at X, whatever those commands were." The keeper is the version store, and X the point. Each claim is a type; its
 -- proof has the claim's name in proofs/Theorems.antt.
-use Rattle.std.specs.Prelude.{◌≡◌, List, [], ℕ, ◌+◌, ◌<◌}
-use Rattle.std.proofs.Math.Option.{some}
+use Rattle.std.specs.Prelude.{◌≡◌, List, [], ℕ, ◌+◌, ◌<◌, Some}
 use Rattle.octets.specs.Part.{AreBytes}
 use Rattle.lockpage.specs.Geometry.{Geometry}
 use Rattle.memory.specs.Memory.{groups}
@@ -97,4 +96,4 @@ module _ (γ : Geometry) where
   unfoldable pub PartsReadBack : Type 0
   PartsReadBack = (u : Use) (es : List Event) (now : ℕ) (result : List ℕ) (part b : ℕ) → StoredAtPoint u → TimedAfter u es
       → now < u.point + u.lock → AcceptedRecovery γ (range u) (intruded u es) u.point now result
-      → recovered γ (range u) (intruded u es) u.point now part ≡ some b → PartReads u (intruded u es) part b
+      → recovered γ (range u) (intruded u es) u.point now part ≡ Some b → PartReads u (intruded u es) part b

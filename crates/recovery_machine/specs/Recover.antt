@@ -1,8 +1,7 @@
 -- Recovery, after document 02, Q-6: "After an intrusion the office names a time X and wants its parts back." Assumes nothing: these are
 -- definitions.
-use Rattle.std.specs.Prelude.{◌≡◌, Bool, true, false, ◌&&◌, ℕ, ◌*◌, length, eqb, leb}
+use Rattle.std.specs.Prelude.{◌≡◌, Bool, true, false, ◌&&◌, ℕ, ◌*◌, length, eqb, leb, Option, None}
 use mathlib.Core.List.{List, [], ◌∷◌, flat_map}
-use Rattle.std.proofs.Math.Option.{Option, none}
 use Rattle.lockpage.specs.Geometry.{Geometry}
 use Rattle.machine.specs.Command.{Box}
 use Rattle.machine.specs.Question.{Question, Put, first_no, question1, question2, question4}
@@ -53,7 +52,7 @@ module _ (γ : Geometry) where
 
     -- "For each part the last record in that walk counts"
     unfoldable pub recovered : Box → ℕ → ℕ → ℕ → Option ℕ
-    recovered s point now = told (λ part. none) (those (counts s point now) (walked_records s point now))
+    recovered s point now = told (λ part. None) (those (counts s point now) (walked_records s point now))
 
     -- "The result is 256 block numbers of 4 bytes, FF FF FF FF for none."
     unfoldable pub recover : Box → ℕ → ℕ → List ℕ → Recovery

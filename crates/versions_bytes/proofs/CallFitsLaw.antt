@@ -3,7 +3,7 @@ use mathlib.Core.Path.{◌≡◌, ap, sym, subst, ◌∙◌}
 use mathlib.Core.Bool.{Bool, true, false, ◌&&◌}
 use mathlib.Mathlib.Data.Bool.Basic.{and_intro, and_elim_left, and_elim_right}
 use mathlib.Core.List.{List, [], ◌∷◌, ◌++◌, all}
-use mathlib.Core.Option.{some}
+use Rattle.std.specs.Prelude.{Some}
 use Prim.Native.Nat.{ℕ, ◌+◌, ◌≤◌, ◌<◌, ◌^◌}
 use native.Mathlib.Omega.{arith}
 use native.Mathlib.Nat.{mul-le-mul_left}
@@ -65,8 +65,8 @@ module _ {γ : Geometry} (σ : Proper γ) where
         taken = l;
       }
     where
-      block_is : (k a : ℕ) → k ≡ part → replaced_by ν.newest part block k ≡ some a → block ≡ a
-      block_is k a same e = let x : some block ≡ some a = sym (ap (replaced_by ν.newest part block) same ∙ newest_own ν.newest part block) ∙ e in cc
+      block_is : (k a : ℕ) → k ≡ part → replaced_by ν.newest part block k ≡ Some a → block ≡ a
+      block_is k a same e = let x : Some block ≡ Some a = sym (ap (replaced_by ν.newest part block) same ∙ newest_own ν.newest part block) ∙ e in cc
 
   logged_fields : (bound : ℕ) (ν : Versions) (pointer : ℕ) → pointer < bound → Fields γ bound ν → Fields γ bound (logged ν pointer)
   unfolding logged

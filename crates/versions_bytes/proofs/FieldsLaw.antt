@@ -3,7 +3,7 @@
 use mathlib.Core.Path.{◌≡◌, ap, ap₂, sym, ◌∙◌}
 use mathlib.Core.Bool.{true}
 use mathlib.Core.List.{List, all, ◌++◌}
-use mathlib.Core.Option.{some, none}
+use Rattle.std.specs.Prelude.{Some, None}
 use Prim.Native.Nat.{ℕ, ◌<◌, ◌^◌, ◌%◌}
 use native.Mathlib.Nat.{mod-lt}
 use lib.Dec.{lit<}
@@ -21,8 +21,8 @@ use Rattle.versions_bytes.proofs.FitLaw.{handed_on}
 
 module _ (γ : Geometry) where
   pub record Fields (bound : ℕ) (ν : Versions) : Type 0 where
-    pub newest : (part block : ℕ) → ν.newest part ≡ some block → is_block γ block ≡ true
-    pub no_more : (part : ℕ) → last_part < part → ν.newest part ≡ none
+    pub newest : (part block : ℕ) → ν.newest part ≡ Some block → is_block γ block ≡ true
+    pub no_more : (part : ℕ) → last_part < part → ν.newest part ≡ None
     pub records : all ν.records (is_record γ) ≡ true
     pub reserve : ν.reserve < bound
     pub taken : ν.taken < bound

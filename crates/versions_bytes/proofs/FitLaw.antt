@@ -3,7 +3,7 @@ use mathlib.Core.Path.{◌≡◌, refl, ap, ap₂, sym, ◌∙◌}
 use mathlib.Core.Bool.{Bool, true, false, ◌||◌}
 use mathlib.Mathlib.Data.Bool.Basic.{and_elim_left, and_elim_right, or_inr}
 use mathlib.Core.List.{List, [], ◌∷◌, ◌++◌, all}
-use mathlib.Core.Option.{Option, some, none}
+use Rattle.std.specs.Prelude.{Option, Some, None}
 use Prim.Native.Nat.{ℕ, ◌+◌, ◌-◌, ◌*◌, ◌^◌, ◌≤◌, ◌<◌}
 use native.Mathlib.Nat.{add-zero, mul-le-mul}
 use native.Mathlib.Omega.{arith}
@@ -43,19 +43,19 @@ module _ {γ : Geometry} (σ : Proper γ) where
 
   -- ---- a newest block
 
-  number_named : (o : Option ℕ) → ((block : ℕ) → o ≡ some block → is_block γ block ≡ true) → block_named (block_number o) ≡ o
-  number_named none h = ap (λ (b : Bool). elim b [ true ↦ none | false ↦ some no_block ]) (eq-eqb no_block no_block refl)
-  number_named (some block) h =
-      ap (λ (b : Bool). elim b [ true ↦ none | false ↦ some block ])
+  number_named : (o : Option ℕ) → ((block : ℕ) → o ≡ Some block → is_block γ block ≡ true) → block_named (block_number o) ≡ o
+  number_named None h = ap (λ (b : Bool). elim b [ true ↦ None | false ↦ Some no_block ]) (eq-eqb no_block no_block refl)
+  number_named (Some block) h =
+      ap (λ (b : Bool). elim b [ true ↦ None | false ↦ Some block ])
       (ne_eqb block no_block (λ e. omega (arith, block_small block (h block refl))))
 
-  number_small : (o : Option ℕ) → ((block : ℕ) → o ≡ some block → is_block γ block ≡ true) → block_number o < 256 ^ field_size
-  number_small none h = omega arith
-  number_small (some block) h = omega (arith, block_small block (h block refl))
+  number_small : (o : Option ℕ) → ((block : ℕ) → o ≡ Some block → is_block γ block ≡ true) → block_number o < 256 ^ field_size
+  number_small None h = omega arith
+  number_small (Some block) h = omega (arith, block_small block (h block refl))
 
-  number_newest : (o : Option ℕ) → ((block : ℕ) → o ≡ some block → is_block γ block ≡ true) → is_newest γ (block_number o) ≡ true
-  number_newest none h = ap (λ (b : Bool). b || is_block γ no_block) (eq-eqb no_block no_block refl)
-  number_newest (some block) h = or_inr (eqb block no_block) (is_block γ block) (h block refl)
+  number_newest : (o : Option ℕ) → ((block : ℕ) → o ≡ Some block → is_block γ block ≡ true) → is_newest γ (block_number o) ≡ true
+  number_newest None h = ap (λ (b : Bool). b || is_block γ no_block) (eq-eqb no_block no_block refl)
+  number_newest (Some block) h = or_inr (eqb block no_block) (is_block γ block) (h block refl)
 
   -- ---- the records
 
@@ -152,7 +152,7 @@ module _ {γ : Geometry} (σ : Proper γ) where
     unfolding newest_in
     newests_back p = go (leb p last_part) refl
       where
-        go : (b : Bool) → leb p last_part ≡ b → elim b [ true ↦ block_named (newest_number written p) | false ↦ none ] ≡ ν.newest p
+        go : (b : Bool) → leb p last_part ≡ b → elim b [ true ↦ block_named (newest_number written p) | false ↦ None ] ≡ ν.newest p
         go true e = ap block_named (newest_back p (leb-true p last_part e)) ∙ number_named (ν.newest p) (f.newest p)
         go false e = sym (f.no_more p (leb-false p last_part e))
 

@@ -2,7 +2,7 @@
 use mathlib.Core.Path.{◌≡◌, refl, ap, sym, subst, ◌∙◌}
 use mathlib.Core.Bool.{true}
 use mathlib.Core.List.{List, [], ◌∷◌}
-use mathlib.Core.Option.{none-ne-some}
+use Rattle.std.proofs.lemmas.Option.{none-some}
 use Prim.Native.Nat.{ℕ, ◌≤◌}
 use native.Mathlib.Omega.{arith}
 use borrow.Author.Tests.{eq-eqb, ne_eqb}
@@ -128,7 +128,7 @@ module _ {γ : Geometry} (σ : Proper γ) where
           fits =
               record {
                 sound = facts_sound σ (start ρ.first lock) (record { least = l.0; most = l.1; room = least });
-                newest = λ part b x. absurd (none-ne-some b x);
+                newest = λ part b x. absurd (none-some b x);
                 no_more = λ part m. refl;
                 records = all_none (is_record γ);
                 reserve = omega arith;

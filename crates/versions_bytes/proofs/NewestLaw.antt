@@ -1,7 +1,7 @@
 -- The bytes of the newest blocks: how many they are, one part's place among them, and another block there. Assumes nothing.
 use mathlib.Core.Path.{◌≡◌, refl, ap, ap₂, sym, ◌∙◌}
 use mathlib.Core.List.{List, ◌++◌, append_assoc}
-use mathlib.Core.Option.{Option, none}
+use Rattle.std.specs.Prelude.{Option, None}
 use Prim.Native.Nat.{ℕ, zero, suc, ◌+◌, ◌-◌, ◌*◌, ◌≤◌, ◌<◌}
 use native.Mathlib.Nat.{add-zero}
 use native.Mathlib.Omega.{arith}
@@ -52,12 +52,12 @@ newests_same f g from (suc n) h =
     (newests_same f g (from + 1) n (λ k a b. h k (omega arith) (omega arith)))
 
 -- none of any part
-pub newests_none : (from n : ℕ) → newest_bytes (λ p. none) from n ≡ repeated (field_size * n) unused
+pub newests_none : (from n : ℕ) → newest_bytes (λ p. None) from n ≡ repeated (field_size * n) unused
 unfolding newest_bytes bytes repeated
 newests_none from zero = refl
 newests_none from (suc n) =
     let size : field_size * suc n ≡ suc (suc (suc (suc (field_size * n)))) = omega arith in
-    ap (λ (l : List ℕ). block_bytes none ++ l) (newests_none (from + 1) n) ∙ ap (λ (k : ℕ). repeated k unused) (sym size)
+    ap (λ (l : List ℕ). block_bytes None ++ l) (newests_none (from + 1) n) ∙ ap (λ (k : ℕ). repeated k unused) (sym size)
 
 module _ (newest : ℕ → Option ℕ) (p : ℕ) (h : p ≤ last_part) where
   -- all of them, but for a part's

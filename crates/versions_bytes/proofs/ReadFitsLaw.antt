@@ -2,7 +2,7 @@
 use mathlib.Core.Path.{◌≡◌, refl, ap, sym, ◌∙◌}
 use mathlib.Core.Bool.{Bool, true, false, ◌||◌}
 use mathlib.Core.List.{List}
-use mathlib.Core.Option.{some, none}
+use Rattle.std.specs.Prelude.{Some, None}
 use Prim.Native.Nat.{ℕ, ◌<◌, ◌^◌}
 use native.Mathlib.Omega.{arith}
 use borrow.Author.Tests.{leb-true, lt-leb}
@@ -22,10 +22,10 @@ use Rattle.versions_bytes.proofs.FieldsLaw.{Fields, fits}
 
 module _ (γ : Geometry) where
   -- a number that is a newest block, and does not name none
-  named_block : (n block : ℕ) → is_newest γ n ≡ true → block_named n ≡ some block → is_block γ block ≡ true
+  named_block : (n block : ℕ) → is_newest γ n ≡ true → block_named n ≡ Some block → is_block γ block ≡ true
   named_block n block h e = go (eqb n no_block) h e
     where
-      go : (b : Bool) → (b || is_block γ n) ≡ true → elim b [ true ↦ none | false ↦ some n ] ≡ some block → is_block γ block ≡ true
+      go : (b : Bool) → (b || is_block γ n) ≡ true → elim b [ true ↦ None | false ↦ Some n ] ≡ Some block → is_block γ block ≡ true
       go true w q = absurd (let z : ◌≡◌ {A = ℕ} 0 1 = cc in omega arith)
       go false w q = let same : n ≡ block = cc in ap (is_block γ) (sym same) ∙ w
 
@@ -37,18 +37,18 @@ module _ (γ : Geometry) where
         (sym (from_listed (λ i. is_newest γ (newest_number state i)) 0 parts) ∙ (facts γ state v).newests)
         p (omega arith) (omega (arith, leb-true p last_part h))
 
-    newest_block : (p block : ℕ) → newest_in state p ≡ some block → is_block γ block ≡ true
+    newest_block : (p block : ℕ) → newest_in state p ≡ Some block → is_block γ block ≡ true
     unfolding newest_in
     newest_block p block e = go (leb p last_part) refl e
       where
-        go : (t : Bool) → leb p last_part ≡ t → elim t [ true ↦ block_named (newest_number state p) | false ↦ none ] ≡ some block
+        go : (t : Bool) → leb p last_part ≡ t → elim t [ true ↦ block_named (newest_number state p) | false ↦ None ] ≡ Some block
             → is_block γ block ≡ true
         go true h q = named_block (newest_number state p) block (newest_fits p h) q
         go false h q = absurd (let z : ◌≡◌ {A = ℕ} 0 1 = cc in omega arith)
 
-    no_newest : (p : ℕ) → last_part < p → newest_in state p ≡ none
+    no_newest : (p : ℕ) → last_part < p → newest_in state p ≡ None
     unfolding newest_in
-    no_newest p h = ap (λ (t : Bool). elim t [ true ↦ block_named (newest_number state p) | false ↦ none ]) (lt-leb p last_part h)
+    no_newest p h = ap (λ (t : Bool). elim t [ true ↦ block_named (newest_number state p) | false ↦ None ]) (lt-leb p last_part h)
 
     -- whatever the reserve and the block last taken are
     pub read_fields : (bound : ℕ) → (versions_in state).reserve < bound → (versions_in state).taken < bound → Fields γ bound (versions_in state)

@@ -1,8 +1,7 @@
 -- That a state's bytes and what the store keeps say the same, and go on to, call after call. Each claim is a type; its proof has the
 -- claim's name in proofs/Theorems.antt.
-use Rattle.std.specs.Prelude.{◌≡◌, true, ℕ, ◌+◌, ◌≤◌, ◌<◌, ◌^◌}
+use Rattle.std.specs.Prelude.{◌≡◌, true, ℕ, ◌+◌, ◌≤◌, ◌<◌, ◌^◌, Some, None}
 use mathlib.Core.List.{List, all}
-use Rattle.std.proofs.Math.Option.{some, none}
 use Rattle.octets.specs.Part.{AreBytes}
 use Rattle.lockpage.specs.Geometry.{Geometry, present}
 use Rattle.machine.specs.Command.{Box}
@@ -23,8 +22,8 @@ module _ (γ : Geometry) where
   -- what has room in its field, and is such as a start and calls leave it
   pub record Fits (ν : Versions) : Type 0 where
     pub sound : is_sound γ ν ≡ true
-    pub newest : (part block : ℕ) → ν.newest part ≡ some block → is_block γ block ≡ true
-    pub no_more : (part : ℕ) → last_part < part → ν.newest part ≡ none
+    pub newest : (part block : ℕ) → ν.newest part ≡ Some block → is_block γ block ≡ true
+    pub no_more : (part : ℕ) → last_part < part → ν.newest part ≡ None
     pub records : all ν.records (is_record γ) ≡ true
     pub reserve : ν.reserve < 256 ^ field_size
     pub taken : ν.taken < 256 ^ field_size

@@ -2,7 +2,7 @@
 use mathlib.Core.Path.{◌≡◌, refl, ap, ap₂, sym, ◌∙◌}
 use mathlib.Core.Bool.{Bool, true, false, not}
 use mathlib.Core.List.{List, [], ◌∷◌}
-use mathlib.Core.Option.{Option, some, none}
+use Rattle.std.specs.Prelude.{Option, Some, None}
 use Prim.Native.Nat.{ℕ}
 use borrow.Author.Tests.{eq-eqb, ne_eqb}
 use lib.ListN.{length}
@@ -24,11 +24,11 @@ use Rattle.versions_forecast.specs.Stages.{last_questions, entries_past, raised,
 
 -- ---- the block named
 
-pub named_none : (n : ℕ) → n ≡ no_block → block_named n ≡ none
-named_none n e = ap (λ (b : Bool). elim b [ true ↦ none | false ↦ some n ]) (eq-eqb n no_block e)
+pub named_none : (n : ℕ) → n ≡ no_block → block_named n ≡ None
+named_none n e = ap (λ (b : Bool). elim b [ true ↦ None | false ↦ Some n ]) (eq-eqb n no_block e)
 
-pub named_some : (n : ℕ) → (n ≡ no_block → ⊥) → block_named n ≡ some n
-named_some n d = ap (λ (b : Bool). elim b [ true ↦ none | false ↦ some n ]) (ne_eqb n no_block d)
+pub named_some : (n : ℕ) → (n ≡ no_block → ⊥) → block_named n ≡ Some n
+named_some n d = ap (λ (b : Bool). elim b [ true ↦ None | false ↦ Some n ]) (ne_eqb n no_block d)
 
 -- ---- a command by itself, in a box with so many groups, these counts and these entries
 
@@ -79,8 +79,8 @@ module _ (γ : Geometry) (counts : ℕ → ℕ) (block now lock : ℕ) where
   pub counts_before_log : (replaced : Option ℕ)
       → raised_for γ (raised γ counts block) replaced ≡ counts_past γ counts (writing block now lock [] ∷ unfreezes replaced now)
   unfolding raised_for unfreezes
-  counts_before_log none = refl
-  counts_before_log (some a) = refl
+  counts_before_log None = refl
+  counts_before_log (Some a) = refl
 
 module _ (entries : ℕ → Entry) (block now lock : ℕ) where
   -- a block that is not the one written has the entry that it had

@@ -2,7 +2,7 @@
 use mathlib.Core.Path.{◌≡◌, refl, ap, sym, subst, ◌∙◌}
 use mathlib.Core.Bool.{Bool, true, false}
 use mathlib.Core.List.{List, [], ◌∷◌, ◌++◌}
-use mathlib.Core.Option.{Option, some}
+use Rattle.std.specs.Prelude.{Option, Some}
 use Prim.Native.Nat.{ℕ}
 use Rattle.lockpage.specs.Geometry.{Geometry}
 use Rattle.lockpage.specs.declared.Entry.{Entry}
@@ -100,7 +100,7 @@ module _ (γ : Geometry) (G : ℕ) where
         log_due y d r er = er ∙ ap number (sym d) ∙ second_passed y
 
         -- a reserve that was unfrozen has an expiry within its limit
-        pub unfrozen_within : k ≡ 0 → (block ≡ reserve → ⊥) → replaced ≡ some reserve → within_limit (updated Unfreeze now (entries reserve)) ≡ true
+        pub unfrozen_within : k ≡ 0 → (block ≡ reserve → ⊥) → replaced ≡ Some reserve → within_limit (updated Unfreeze now (entries reserve)) ≡ true
         unfolding unfreezes numbered_to
         unfrozen_within y d e =
             let alone = ap (λ (x : Option ℕ). foreseen γ G counts_1 entries_1 (unfreezes x now)) (sym e) in

@@ -1,6 +1,5 @@
 -- What a forecast takes for granted. Assumes nothing: these are definitions.
-use Rattle.std.specs.Prelude.{◌≡◌, true, ℕ, ◌≤◌, ◌<◌, length}
-use Rattle.std.proofs.Math.Option.{some}
+use Rattle.std.specs.Prelude.{◌≡◌, true, ℕ, ◌≤◌, ◌<◌, length, Some}
 use Rattle.lockpage.specs.Geometry.{Geometry}
 use Rattle.lockpage.specs.declared.Update.{Update}
 use Rattle.lockpage.specs.declared.Update.TheVariants.{Unfreeze}
@@ -44,4 +43,4 @@ module _ (γ : Geometry) where
     pub valid : ValidBox γ s
     pub early : now ≤ latest_time
     pub other : block ≡ reserve → ⊥
-    pub within : block_named replaced ≡ some reserve → within_limit (updated Unfreeze now (current_entry γ s reserve)) ≡ true
+    pub within : block_named replaced ≡ Some reserve → within_limit (updated Unfreeze now (current_entry γ s reserve)) ≡ true

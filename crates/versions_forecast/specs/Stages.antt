@@ -1,7 +1,6 @@
 -- The counts and the entries between a put's commands, and the questions that are asked of them together. Assumes nothing: these are
 -- definitions.
-use Rattle.std.specs.Prelude.{List, [], ◌∷◌, ℕ, ◌+◌, ltb}
-use Rattle.std.proofs.Math.Option.{Option, some, none}
+use Rattle.std.specs.Prelude.{List, [], ◌∷◌, ℕ, ◌+◌, ltb, Option, Some, None}
 use Rattle.lockpage.specs.Geometry.{Geometry}
 use Rattle.lockpage.specs.declared.Entry.{Entry}
 use Rattle.lockpage.specs.declared.Update.{Update}
@@ -32,8 +31,8 @@ module _ (γ : Geometry) where
 
   -- and after one on a block or on none
   unfoldable pub raised_for : (ℕ → ℕ) → Option ℕ → ℕ → ℕ
-  raised_for counts none = counts
-  raised_for counts (some a) = raised counts a
+  raised_for counts None = counts
+  raised_for counts (Some a) = raised counts a
 
   -- and after several
   abbrev pub counts_past : (ℕ → ℕ) → List Order → ℕ → ℕ

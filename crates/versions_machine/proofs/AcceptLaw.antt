@@ -3,7 +3,7 @@ use mathlib.Core.Path.{◌≡◌, refl, ap, ◌∙◌}
 use mathlib.Core.Bool.{Bool, true, false}
 use mathlib.Mathlib.Data.Bool.Basic.{and_elim_left, and_elim_right}
 use mathlib.Core.List.{List, [], ◌∷◌, ◌++◌}
-use mathlib.Core.Option.{Option, some, none}
+use Rattle.std.specs.Prelude.{Option, Some, None}
 use Prim.Native.Nat.{ℕ, ◌≤◌}
 use borrow.Author.Tests.{eqb-true, leb-true}
 use lib.ListN.{length}
@@ -113,8 +113,8 @@ module _ {γ : Geometry} (σ : Proper γ) (ρ : Range) where
 
   pub unfreezes_at : (now : ℕ) (o : Option ℕ) → EachAt σ now (unfreezes o now)
   unfolding unfreezes
-  unfreezes_at now none = tt
-  unfreezes_at now (some b) = (refl, tt)
+  unfreezes_at now None = tt
+  unfreezes_at now (Some b) = (refl, tt)
 
   due_at : (ν : Versions) (s : Box) (now : ℕ) → EachAt σ now (due_plan γ ρ ν s now).orders
   unfolding due_plan log_plan

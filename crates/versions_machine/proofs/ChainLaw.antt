@@ -2,7 +2,7 @@
 use mathlib.Core.Path.{◌≡◌, refl, ap, sym, subst, ◌∙◌}
 use mathlib.Core.Bool.{true, false}
 use mathlib.Core.List.{List, [], ◌∷◌, ◌++◌, append_assoc, append-nil}
-use mathlib.Core.Option.{Option, some}
+use Rattle.std.specs.Prelude.{Option, Some}
 use Prim.Native.Nat.{ℕ}
 use lib.Dec.{eqb}
 use Rattle.lockpage.specs.Geometry.{Geometry, Proper}
@@ -23,7 +23,7 @@ told_append f (x ∷ xs) ys = told_append (replaced_by f x.part x.block) xs ys
 
 pub replaced_alike : (f g : ℕ → Option ℕ) (part b k : ℕ) → f k ≡ g k → replaced_by f part b k ≡ replaced_by g part b k
 unfolding replaced_by
-replaced_alike f g part b k e = ap (λ (x : Option ℕ). elim (eqb k part) [ true ↦ some b | false ↦ x ]) e
+replaced_alike f g part b k e = ap (λ (x : Option ℕ). elim (eqb k part) [ true ↦ Some b | false ↦ x ]) e
 
 pub records_end : (ls : List Link) (l : Link) → records_of (ls ++ (l ∷ [])) ≡ records_of ls ++ l.records
 records_end [] l = append-nil l.records

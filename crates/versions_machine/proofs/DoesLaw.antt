@@ -2,7 +2,7 @@
 use mathlib.Core.Path.{◌≡◌, refl, ap, sym, subst, ◌∙◌}
 use mathlib.Core.Bool.{Bool, true, false}
 use mathlib.Core.List.{List, [], ◌∷◌, ◌++◌}
-use mathlib.Core.Option.{Option, some, none}
+use Rattle.std.specs.Prelude.{Option, Some, None}
 use Rattle.lockpage.specs.declared.State.TheVariants.{Free}
 use Rattle.lockpage.specs.State.{state}
 use Rattle.machine.specs.Tag.{current_entry}
@@ -59,10 +59,10 @@ module _ {γ : Geometry} (σ : Proper γ) (ρ : Range) where
   -- ---- a put
 
   -- what holds of an unfreeze, and of a log block's write, holds of each order that there is
-  pub unfreezes_each : (Q : Order → Type 0) (now : ℕ) (x : Option ℕ) → ((old : ℕ) → x ≡ some old → Q (unfreezing old now)) → Each Q (unfreezes x now)
+  pub unfreezes_each : (Q : Order → Type 0) (now : ℕ) (x : Option ℕ) → ((old : ℕ) → x ≡ Some old → Q (unfreezing old now)) → Each Q (unfreezes x now)
   unfolding unfreezes
-  unfreezes_each Q now none f = tt
-  unfreezes_each Q now (some old) f = (f old refl, tt)
+  unfreezes_each Q now None f = tt
+  unfreezes_each Q now (Some old) f = (f old refl, tt)
 
   pub due_each : (Q : Order → Type 0) (ν : Versions) (t : Box) (now : ℕ)
       → (is_full γ ν ≡ true → (content : List ℕ) → Q (writing ν.reserve now ν.lock content)) → Each Q (due_plan γ ρ ν t now).orders

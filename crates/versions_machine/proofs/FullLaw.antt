@@ -2,7 +2,7 @@
 use mathlib.Core.Path.{◌≡◌, refl, ap, ◌∙◌}
 use mathlib.Core.Bool.{true}
 use mathlib.Core.List.{List, [], ◌∷◌, ◌++◌}
-use mathlib.Core.Option.{none}
+use Rattle.std.specs.Prelude.{None}
 use Prim.Native.Nat.{ℕ, ◌+◌, ◌≤◌, ◌<◌}
 use native.Mathlib.Omega.{arith}
 use borrow.Author.Tests.{eq-eqb, le-leb}
@@ -37,7 +37,7 @@ module _ {γ : Geometry} (σ : Proper γ) where
       (t : now ≤ latest_time) (some_entries : 3 ≤ γ.entries) (some_blocks : 3 ≤ data_blocks γ g) (p : part ≤ last_part)
       (size : length content ≡ block_size γ) (last : length records + 1 ≡ records_per_block γ) where
     abbrev ν : Versions
-    ν = versions_of lock (λ k. none) records first_block first_block
+    ν = versions_of lock (λ k. None) records first_block first_block
 
     abbrev e : Versions
     e = entered ν part 1

@@ -2,7 +2,8 @@
 use mathlib.Core.Path.{◌≡◌, refl, ap, sym, subst, ◌∙◌}
 use mathlib.Core.Bool.{Bool, true, false}
 use mathlib.Core.List.{List, [], ◌∷◌, ◌++◌, append_assoc, append-nil}
-use mathlib.Core.Option.{Option, none, none-ne-some}
+use Rattle.std.specs.Prelude.{Option, None}
+use Rattle.std.proofs.lemmas.Option.{none-some}
 use Prim.Native.Nat.{ℕ, ◌≤◌, ◌<◌}
 use native.Mathlib.Omega.{arith}
 use borrow.Author.Tests.{eqb-true, leb-true}
@@ -49,7 +50,7 @@ module _ {γ : Geometry} (σ : Proper γ) where
       links : List Link
       logs : Logs σ ν.lock ν.newest links ν.reserve s
       begins : first_of links ν.reserve ≡ ρ.first
-      tells : (part : ℕ) → ν.newest part ≡ told (λ p. none) (records_of links ++ ν.records) part
+      tells : (part : ℕ) → ν.newest part ≡ told (λ p. None) (records_of links ++ ν.records) part
       dated : Dated γ (size s) (last s) links ν.records
       under : AllUnder ν.lock (last s) ν.newest contents
 
@@ -71,9 +72,9 @@ module _ {γ : Geometry} (σ : Proper γ) where
           begins = h.begins;
           tells =
               λ k.
-              replaced_alike ν.newest (told (λ p. none) before) part block k (h.tells k)
-              ∙ ap (λ (f : ℕ → Option ℕ). f k) (sym (told_append (λ p. none) before r))
-              ∙ ap (λ (xs : List Record). told (λ p. none) xs k) (append_assoc (records_of h.links) ν.records r);
+              replaced_alike ν.newest (told (λ p. None) before) part block k (h.tells k)
+              ∙ ap (λ (f : ℕ → Option ℕ). f k) (sym (told_append (λ p. None) before r))
+              ∙ ap (λ (xs : List Record). told (λ p. None) xs k) (append_assoc (records_of h.links) ν.records r);
           dated =
               dated_entered γ (size t) (last t) h.links ν.records (record_of part block)
               (record { part = few; block = subst (λ (g : ℕ). block < data_blocks γ g) (sym at.same_groups) at.range })
@@ -105,7 +106,7 @@ module _ {γ : Geometry} (σ : Proper γ) where
           tells =
               λ k.
               h.tells k
-              ∙ ap (λ (xs : List Record). told (λ p. none) xs k)
+              ∙ ap (λ (xs : List Record). told (λ p. None) xs k)
               (sym (append-nil (records_of (h.links ++ (l ∷ []))) ∙ records_end h.links l));
           dated =
               dated_later γ (size t) (size u) now (last u) (h.links ++ (l ∷ [])) [] at.same_groups (omega (arith, at.time))
@@ -194,13 +195,13 @@ module _ {γ : Geometry} (σ : Proper γ) where
         record {
           lock = refl;
           contents = λ p. locked_of [] 0 0;
-          sound = record { holds = λ p b e. absurd (none-ne-some b e); apart = λ p q b e f. absurd (none-ne-some b e) };
+          sound = record { holds = λ p b e. absurd (none-some b e); apart = λ p q b e f. absurd (none-some b e) };
           links = [];
           logs = record { chained = tt; apart = λ p b e. tt };
           begins = refl;
           tells = λ k. refl;
           dated = record { ascending = omega arith; distinct = tt; fit = tt; pending = tt };
-          under = λ p b e. absurd (none-ne-some b e);
+          under = λ p b e. absurd (none-some b e);
         }
 
     story_tells : (x : Site) → Story x.versions x.box → LogTells γ ρ R x

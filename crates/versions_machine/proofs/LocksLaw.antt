@@ -2,7 +2,7 @@
 use mathlib.Core.Path.{◌≡◌, ap, sym, subst, ◌∙◌}
 use mathlib.Core.Bool.{true}
 use mathlib.Core.List.{List, [], ◌∷◌, ◌++◌}
-use mathlib.Core.Option.{Option, some}
+use Rattle.std.specs.Prelude.{Option, Some}
 use Prim.Native.Nat.{ℕ, ◌<◌}
 use lib.ListN.{length}
 use Rattle.lockpage.specs.Geometry.{Geometry, Proper}
@@ -120,7 +120,7 @@ module _ {γ : Geometry} (σ : Proper γ) where
       abbrev orders : Option ℕ → List Order
       orders replaced = writing block now ν.lock content ∷ (unfreezes replaced now ++ due.orders)
 
-      version_holds : (block ≡ ν.reserve → ⊥) → (replaced : Option ℕ) → (replaced ≡ some block → ⊥) → (carried_out γ s (orders replaced)).number ≡ 0
+      version_holds : (block ≡ ν.reserve → ⊥) → (replaced : Option ℕ) → (replaced ≡ Some block → ⊥) → (carried_out γ s (orders replaced)).number ≡ 0
           → Holds γ (carried_out γ s (orders replaced)).box block (locked_of content ν.lock now)
       unfolding entered
       version_holds other replaced n c =
@@ -130,13 +130,13 @@ module _ {γ : Geometry} (σ : Proper γ) where
           subst (λ (x : Carried). Holds γ x.box block (locked_of content ν.lock now)) (sym (carried_on γ s o rest a))
           (keeps_holds block (locked_of content ν.lock now) (step γ s (given γ s o)).box rest
           (each_append (Elsewhere block) (unfreezes replaced now) due.orders
-          (unfreezes_each σ ρ (Elsewhere block) now replaced (λ old e x. n (e ∙ ap some (sym x))))
+          (unfreezes_each σ ρ (Elsewhere block) now replaced (λ old e x. n (e ∙ ap Some (sym x))))
           (due_each σ ρ (Elsewhere block) (entered ν part block) t now (λ full log. other)))
           (carried_rest γ s o rest c) (write_holds σ ν.lock s block now content (accepts σ s (given γ s o) a)))
 
       replaced_entry : (old : ℕ) → EntryFits (current_entry γ s old) → (old ≡ block → ⊥) → (is_full γ (entered ν part block) ≡ true → old ≡ ν.reserve → ⊥)
-          → (carried_out γ s (orders (some old))).number ≡ 0
-          → current_entry γ (carried_out γ s (orders (some old))).box old ≡ updated Unfreeze now (current_entry γ s old)
+          → (carried_out γ s (orders (Some old))).number ≡ 0
+          → current_entry γ (carried_out γ s (orders (Some old))).box old ≡ updated Unfreeze now (current_entry γ s old)
       unfolding unfreezes entered
       replaced_entry old fits n m c =
           let o = writing block now ν.lock content in

@@ -2,7 +2,8 @@
 -- Assumes nothing.
 use mathlib.Core.Path.{◌≡◌, refl, ap, sym, subst, ◌∙◌}
 use mathlib.Core.List.{List, [], ◌∷◌, ◌++◌, append-nil}
-use mathlib.Core.Option.{Option, some, none, some-injective}
+use Rattle.std.specs.Prelude.{Option, Some, None}
+use Rattle.std.proofs.lemmas.Option.{same_Some}
 use Prim.Native.Nat.{ℕ}
 use Rattle.lockpage.specs.Geometry.{Geometry, Proper}
 use Rattle.machine.specs.Command.{Box}
@@ -22,7 +23,7 @@ use Rattle.versions_machine.proofs.ChainLaw.{not_in_end, chain_but, chain_end, w
 module _ {γ : Geometry} (σ : Proper γ) where
   pub record Logs (R : ℕ) (newest : ℕ → Option ℕ) (ls : List Link) (end : ℕ) (s : Box) : Type 0 where
     pub chained : Chained γ R s ls end
-    pub apart : (p b : ℕ) → newest p ≡ some b → NotIn b ls
+    pub apart : (p b : ℕ) → newest p ≡ Some b → NotIn b ls
 
   pub own_logs : (ν : Versions) (s : Box) (part block now : ℕ) (content : List ℕ) (ls : List Link) (end : ℕ)
       → (carried_out γ s (version_orders γ ν part block now content)).number ≡ 0 → Logs ν.lock ν.newest ls end s
@@ -38,19 +39,19 @@ module _ {γ : Geometry} (σ : Proper γ) where
             same_or_not p part
             (λ d.
             subst (λ (x : ℕ). NotIn x ls)
-            (some-injective block b (sym (ap (replaced_by ν.newest part block) d ∙ newest_own ν.newest part block) ∙ e))
+            (same_Some block b (sym (ap (replaced_by ν.newest part block) d ∙ newest_own ν.newest part block) ∙ e))
             (write_not_in σ ν.lock ν.lock s block now content a ls end h.chained))
             (λ d. h.apart p b (sym (newest_other ν.newest part block p d) ∙ e));
       }
     where
       go : (x : Option ℕ) → ν.newest part ≡ x → (carried_out γ s (writing block now ν.lock content ∷ unfreezes x now)).number ≡ 0
           → Chained γ ν.lock (carried_out γ s (writing block now ν.lock content ∷ unfreezes x now)).box ls end
-      go none e c =
+      go None e c =
           let o = writing block now ν.lock content in
           let a = carried_first γ s o [] c in
           subst (λ (x : Carried). Chained γ ν.lock x.box ls end) (sym (carried_on γ s o [] a))
           (write_chain σ ν.lock ν.lock s block now content a ls end h.chained)
-      go (some old) e c =
+      go (Some old) e c =
           let o = writing block now ν.lock content in
           let u = unfreezing old now in
           let a = carried_first γ s o (u ∷ []) c in

@@ -2,7 +2,8 @@
 use mathlib.Core.Path.{◌≡◌, refl, ap, sym, subst, ◌∙◌}
 use mathlib.Core.Logic.{◌⊎◌, inl, inr, ⊎_elim}
 use mathlib.Core.List.{List, [], ◌∷◌, ◌++◌, append_assoc}
-use mathlib.Core.Option.{Option, some, none, some-injective, none-ne-some}
+use Rattle.std.specs.Prelude.{Option, Some, None}
+use Rattle.std.proofs.lemmas.Option.{same_Some, none-some}
 use Prim.Native.Nat.{ℕ}
 use Rattle.lockpage.specs.Geometry.{Geometry, Proper}
 use Rattle.machine.proofs.CaseLaw.{same_or_not}
@@ -28,7 +29,7 @@ module _ {γ : Geometry} (σ : Proper γ) (ρ : Range) (part : ℕ) where
     pub block : ℕ
     pub content : List ℕ
     pub newest : Newest γ ρ x cs part block content
-    pub known : (calls γ ρ x cs).versions.newest part ≡ some block
+    pub known : (calls γ ρ x cs).versions.newest part ≡ Some block
 
   -- ---- one call more, in front
 
@@ -115,13 +116,13 @@ module _ {γ : Geometry} (σ : Proper γ) (ρ : Range) (part : ℕ) where
       in_front_lem (Between e) h = inl (record { same = h.same; never = (tt, h.never) })
 
   -- where the map had none before
-  pub known_is_put : (x : Site) (cs : List Call) (b : ℕ) → x.versions.newest part ≡ none → (calls γ ρ x cs).versions.newest part ≡ some b
+  pub known_is_put : (x : Site) (cs : List Call) (b : ℕ) → x.versions.newest part ≡ None → (calls γ ρ x cs).versions.newest part ≡ Some b
       → (content : List ℕ) × Newest γ ρ x cs part b content
-  known_is_put x cs b n known = ⊎_elim (λ h. absurd (none-ne-some b (sym (h.same ∙ n) ∙ known))) found (put_or_not x cs)
+  known_is_put x cs b n known = ⊎_elim (λ h. absurd (none-some b (sym (h.same ∙ n) ∙ known))) found (put_or_not x cs)
     where
       found : LastPut x cs → (content : List ℕ) × Newest γ ρ x cs part b content
       found h =
-          let same = some-injective h.block b (sym h.known ∙ known) in
+          let same = same_Some h.block b (sym h.known ∙ known) in
           (h.content, subst (λ (a : ℕ). Newest γ ρ x cs part a h.content) same h.newest)
 
   -- more calls, none of which is an accepted put of the part

@@ -2,7 +2,7 @@
 use mathlib.Core.Path.{◌≡◌, refl, ap, sym, subst, ◌∙◌}
 use mathlib.Core.Bool.{Bool, true, false}
 use mathlib.Core.List.{List, [], ◌∷◌, ◌++◌}
-use mathlib.Core.Option.{Option, some, none}
+use Rattle.std.specs.Prelude.{Option, Some, None}
 use Prim.Native.Nat.{ℕ, ◌<◌}
 use native.Mathlib.Omega.{arith}
 use borrow.Author.Tests.{ne_eqb}
@@ -152,11 +152,11 @@ module _ {γ : Geometry} (σ : Proper γ) where
     where
       go : (x : Option ℕ) → (carried_out γ s (writing block now ν.lock content ∷ unfreezes x now)).number ≡ 0
           → current_entry γ (carried_out γ s (writing block now ν.lock content ∷ unfreezes x now)).box k ≡ current_entry γ s k
-      go none h =
+      go None h =
           let o = writing block now ν.lock content in
           let a = carried_first γ s o [] h in
           ap (λ (x : Carried). current_entry γ x.box k) (carried_on γ s o [] a) ∙ order_entry s o (accepts σ s (given γ s o) a) k l n
-      go (some old) h =
+      go (Some old) h =
           let o = writing block now ν.lock content in
           let u = unfreezing old now in
           let a = carried_first γ s o (u ∷ []) h in

@@ -2,7 +2,7 @@
 -- were written, that no log block comes twice, and what a record names. Assumes nothing.
 use mathlib.Core.Path.{◌≡◌, ap, sym, subst, ◌∙◌}
 use mathlib.Core.List.{List, [], ◌∷◌, ◌++◌}
-use mathlib.Core.Option.{Option, some}
+use Rattle.std.specs.Prelude.{Option, Some}
 use Prim.Native.Nat.{ℕ, ◌≤◌}
 use native.Mathlib.Omega.{arith}
 use lib.ListN.{length}
@@ -77,7 +77,7 @@ pub record PutUnder (lock last part : ℕ) (written : Locked) : Type 0 where
   pub part_few : part ≤ last_part
 
 abbrev pub AllUnder : ℕ → ℕ → (ℕ → Option ℕ) → (ℕ → Locked) → Type 0
-AllUnder lock last newest contents = (p b : ℕ) → newest p ≡ some b → PutUnder lock last p (contents p)
+AllUnder lock last newest contents = (p b : ℕ) → newest p ≡ Some b → PutUnder lock last p (contents p)
 
 pub under_later : (lock last later : ℕ) (newest : ℕ → Option ℕ) (contents : ℕ → Locked) → last ≤ later → AllUnder lock last newest contents
     → AllUnder lock later newest contents

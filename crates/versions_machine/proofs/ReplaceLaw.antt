@@ -2,7 +2,7 @@
 use mathlib.Core.Path.{◌≡◌, refl, ap, sym, subst, ◌∙◌}
 use mathlib.Core.Bool.{true, false}
 use mathlib.Core.List.{List, [], ◌∷◌, ◌++◌}
-use mathlib.Core.Option.{Option, none}
+use Rattle.std.specs.Prelude.{Option, None}
 use Prim.Native.Nat.{ℕ, ◌≤◌, ◌<◌}
 use native.Mathlib.Omega.{arith}
 use borrow.Author.Tests.{ne_eqb, le-leb, lt-ltb}
@@ -110,7 +110,7 @@ module _ {γ : Geometry} (σ : Proper γ) where
         let full : is_full γ (entered ν part 2) ≡ false = ne_eqb 2 (records_per_block γ) (λ e. omega arith) in
         ap (λ (b : ℕ). version_orders γ ν part b now content ++ (due_plan γ ρ (entered ν part b) s1 now).orders) next
         ∙ ap (λ (x : Plan). version_orders γ ν part 2 now content ++ x.orders) (due_none σ ρ (entered ν part 2) s1 now full)
-        ∙ ap (λ (x : Option ℕ). writing 2 now lock content ∷ (unfreezes x now ++ [])) (newest_own (λ k. none) part 1)
+        ∙ ap (λ (x : Option ℕ). writing 2 now lock content ∷ (unfreezes x now ++ [])) (newest_own (λ k. None) part 1)
 
     replacing : (put γ (whole_box γ g) ν s1 part now content).number ≡ 0
     unfolding foreseen

@@ -2,7 +2,8 @@
 use mathlib.Core.Path.{◌≡◌, refl, ap, sym, subst, ◌∙◌}
 use mathlib.Core.Bool.{Bool, true, false}
 use mathlib.Core.List.{List, [], ◌∷◌, ◌++◌}
-use mathlib.Core.Option.{Option, some, none-ne-some}
+use Rattle.std.specs.Prelude.{Option, Some}
+use Rattle.std.proofs.lemmas.Option.{none-some}
 use Prim.Native.Nat.{ℕ}
 use lib.ListN.{length}
 use lib.Dec.{eqb}
@@ -111,7 +112,7 @@ module _ {γ : Geometry} (σ : Proper γ) (ρ : Range) where
   pub record Tracked (part b : ℕ) (content : List ℕ) (x : Site) : Type 0 where
     pub contents : ℕ → Locked
     pub sound : Sound σ x.versions.newest contents x.box
-    pub known : x.versions.newest part ≡ some b
+    pub known : x.versions.newest part ≡ Some b
     pub same : (contents part).content ≡ content
 
   -- an accepted put has its part tracked at the block that it answers
@@ -129,7 +130,7 @@ module _ {γ : Geometry} (σ : Proper γ) (ρ : Range) where
         contents = with_content h.contents part (locked_of content ν.lock now);
         sound = put_sound σ ρ ν s part now content h.contents d.carried h.sound;
         known =
-            ap (λ (f : ℕ → Option ℕ). f part) (put_newest ν s part now content) ∙ newest_own ν.newest part v ∙ ap some answered;
+            ap (λ (f : ℕ → Option ℕ). f part) (put_newest ν s part now content) ∙ newest_own ν.newest part v ∙ ap Some answered;
         same = ap (λ (w : Locked). w.content) (content_own h.contents part (locked_of content ν.lock now));
       })
 
@@ -211,7 +212,7 @@ module _ {γ : Geometry} (σ : Proper γ) (ρ : Range) where
   start_kept lock s =
       record {
         contents = λ p. locked_of [] 0 0;
-        sound = record { holds = λ p b e. absurd (none-ne-some b e); apart = λ p q b e f. absurd (none-ne-some b e) };
+        sound = record { holds = λ p b e. absurd (none-some b e); apart = λ p q b e f. absurd (none-some b e) };
       }
 
   -- ---- what a read answers

@@ -3,7 +3,8 @@
 use mathlib.Core.Path.{◌≡◌, refl, ap, sym, subst, ◌∙◌}
 use mathlib.Core.Bool.{Bool, true, false}
 use mathlib.Core.List.{List, [], ◌++◌}
-use mathlib.Core.Option.{Option, some, none, some-injective}
+use Rattle.std.specs.Prelude.{Option, Some, None}
+use Rattle.std.proofs.lemmas.Option.{same_Some}
 use Prim.Native.Nat.{ℕ}
 use borrow.Author.Tests.{eq-eqb, ne_eqb}
 use lib.Dec.{eqb}
@@ -32,7 +33,7 @@ pub content_other : (contents : ℕ → Locked) (part : ℕ) (content : Locked) 
     → with_content contents part content k ≡ contents k
 content_other contents part content k n = rw (with_content, ne_eqb k part n)
 
-pub newest_own : (newest : ℕ → Option ℕ) (part block : ℕ) → replaced_by newest part block part ≡ some block
+pub newest_own : (newest : ℕ → Option ℕ) (part block : ℕ) → replaced_by newest part block part ≡ Some block
 unfolding replaced_by
 newest_own newest part block = rw (replaced_by, eq-eqb part part refl)
 
@@ -50,8 +51,8 @@ unchosen plan ν x = elim x [ true ↦ plan_of [] ν | false ↦ plan ]
 
 module _ {γ : Geometry} (σ : Proper γ) where
   pub record Sound (newest : ℕ → Option ℕ) (contents : ℕ → Locked) (s : Box) : Type 0 where
-    pub holds : (p b : ℕ) → newest p ≡ some b → Holds γ s b (contents p)
-    pub apart : (p q b : ℕ) → newest p ≡ some b → newest q ≡ some b → p ≡ q
+    pub holds : (p b : ℕ) → newest p ≡ Some b → Holds γ s b (contents p)
+    pub apart : (p q b : ℕ) → newest p ≡ Some b → newest q ≡ Some b → p ≡ q
 
   -- an accepted write leaves every newest version alone: it is into a free block
   pub write_sound : (newest : ℕ → Option ℕ) (contents : ℕ → Locked) (s : Box) (block now lock : ℕ) (content : List ℕ)
@@ -98,7 +99,7 @@ module _ {γ : Geometry} (σ : Proper γ) where
   pub record Written (newest : ℕ → Option ℕ) (contents : ℕ → Locked) (block : ℕ) (content : Locked) (s : Box) : Type 0 where
     pub sound : Sound newest contents s
     pub version : Holds γ s block content
-    pub fresh : (p b : ℕ) → newest p ≡ some b → b ≡ block → ⊥
+    pub fresh : (p b : ℕ) → newest p ≡ Some b → b ≡ block → ⊥
 
   pub written : (newest : ℕ → Option ℕ) (contents : ℕ → Locked) (s : Box) (block now lock : ℕ) (content : List ℕ)
       → Accepted γ s (given γ s (writing block now lock content)) → Sound newest contents s
@@ -114,13 +115,13 @@ module _ {γ : Geometry} (σ : Proper γ) where
 
   -- the map has it for its part, where the other parts' versions are still held
   replaced : (newest : ℕ → Option ℕ) (contents : ℕ → Locked) (part block : ℕ) (content : Locked) (s : Box) → Holds γ s block content
-      → ((p b : ℕ) → (p ≡ part → ⊥) → newest p ≡ some b → Holds γ s b (contents p))
-      → ((p b : ℕ) → newest p ≡ some b → b ≡ block → ⊥) → ((p q b : ℕ) → newest p ≡ some b → newest q ≡ some b → p ≡ q)
+      → ((p b : ℕ) → (p ≡ part → ⊥) → newest p ≡ Some b → Holds γ s b (contents p))
+      → ((p b : ℕ) → newest p ≡ Some b → b ≡ block → ⊥) → ((p q b : ℕ) → newest p ≡ Some b → newest q ≡ Some b → p ≡ q)
       → Sound (replaced_by newest part block) (with_content contents part content) s
   replaced newest contents part block content s version others fresh apart =
-      let own : (p b : ℕ) → p ≡ part → replaced_by newest part block p ≡ some b → b ≡ block =
-      λ p b e n. some-injective b block (sym n ∙ ap (replaced_by newest part block) e ∙ newest_own newest part block) in
-      let old : (p b : ℕ) → (p ≡ part → ⊥) → replaced_by newest part block p ≡ some b → newest p ≡ some b =
+      let own : (p b : ℕ) → p ≡ part → replaced_by newest part block p ≡ Some b → b ≡ block =
+      λ p b e n. same_Some b block (sym n ∙ ap (replaced_by newest part block) e ∙ newest_own newest part block) in
+      let old : (p b : ℕ) → (p ≡ part → ⊥) → replaced_by newest part block p ≡ Some b → newest p ≡ Some b =
       λ p b d n. sym (newest_other newest part block p d) ∙ n in
       record {
         holds =
@@ -146,9 +147,9 @@ module _ {γ : Geometry} (σ : Proper γ) where
       × ((carried_out γ s (unfreezes before now ++ rest) ≡ carried_out γ t rest)
       × Sound (replaced_by newest part block) (with_content contents part content) t)
   unfolding unfreezes
-  unfrozen newest contents part block now content s rest none e w c =
+  unfrozen newest contents part block now content s rest None e w c =
       (s, (refl, replaced newest contents part block content s w.version (λ p b d n. w.sound.holds p b n) w.fresh w.sound.apart))
-  unfrozen newest contents part block now content s rest (some old) e w c =
+  unfrozen newest contents part block now content s rest (Some old) e w c =
       let o = unfreezing old now in
       let a = carried_first γ s o rest c in
       let r = accepts σ s (given γ s o) a in
@@ -159,7 +160,7 @@ module _ {γ : Geometry} (σ : Proper γ) where
           replaced newest contents part block content t
               (other_holds σ s o r block content (λ x. w.fresh part old e (sym x)) w.version)
               (λ p b d n.
-              other_holds σ s o r b (contents p) (λ x. d (w.sound.apart p part old (n ∙ ap some x) e)) (w.sound.holds p b n))
+              other_holds σ s o r b (contents p) (λ x. d (w.sound.apart p part old (n ∙ ap Some x) e)) (w.sound.holds p b n))
               w.fresh w.sound.apart,
         ),
       )

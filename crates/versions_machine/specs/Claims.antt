@@ -1,6 +1,5 @@
 -- What a reader wants to know of the version store. Each claim is a type; its proof has the claim's name in proofs/Theorems.antt.
-use Rattle.std.specs.Prelude.{◌≡◌, List, [], ◌∷◌, ◌++◌, ℕ, ◌+◌, ◌≤◌, length}
-use Rattle.std.proofs.Math.Option.{some, none}
+use Rattle.std.specs.Prelude.{◌≡◌, List, [], ◌∷◌, ◌++◌, ℕ, ◌+◌, ◌≤◌, length, Some, None}
 use Rattle.lockpage.specs.Geometry.{Geometry}
 use Rattle.lockpage.specs.Size.{block_size}
 use Rattle.lockpage.specs.Update.{latest_time}
@@ -102,11 +101,11 @@ module _ (γ : Geometry) (ρ : Range) where
   unfoldable pub NewestIsKnown : Type 0
   NewestIsKnown = (lock : ℕ) (s : Box) (cs : List Call) (part b : ℕ) (content : List ℕ)
       → Throughout γ ρ StoreAlone (start_site γ ρ lock s) cs → Newest (start_site γ ρ lock s) cs part b content
-      → (calls γ ρ (start_site γ ρ lock s) cs).versions.newest part ≡ some b
+      → (calls γ ρ (start_site γ ρ lock s) cs).versions.newest part ≡ Some b
 
   -- and no other: a block that the map has was answered by the part's last accepted put
   unfoldable pub KnownIsNewest : Type 0
-  KnownIsNewest = (lock : ℕ) (s : Box) (cs : List Call) (part b : ℕ) → (calls γ ρ (start_site γ ρ lock s) cs).versions.newest part ≡ some b
+  KnownIsNewest = (lock : ℕ) (s : Box) (cs : List Call) (part b : ℕ) → (calls γ ρ (start_site γ ρ lock s) cs).versions.newest part ≡ Some b
       → (content : List ℕ) × Newest (start_site γ ρ lock s) cs part b content
 
   -- ---- which calls are accepted
@@ -161,7 +160,7 @@ module _ (γ : Geometry) where
   FullPutIsAccepted = (s : Box) (g : ℕ) (salt : List ℕ) (lock part now : ℕ) (content : List ℕ) (records : List Record)
       → (format γ s g salt).number ≡ 0 → first_no (start_questions lock) ≡ 0 → part ≤ last_part → now ≤ latest_time → length content ≡ block_size γ
       → length records + 1 ≡ records_per_block γ → 3 ≤ γ.entries → 3 ≤ data_blocks γ g
-      → (put γ (whole_box γ g) (versions_of lock (λ p. none) records first_block first_block) (format γ s g salt).box part now content).number ≡ 0
+      → (put γ (whole_box γ g) (versions_of lock (λ p. None) records first_block first_block) (format γ s g salt).box part now content).number ≡ 0
 
   -- and a store on demand, of a store that has one record
   unfoldable pub FirstFlushIsAccepted : Type 0

@@ -1,8 +1,7 @@
 -- What the log on the disk tells, for document 02, Q-6: its blocks, chained from the first, and the records not yet stored say of each part
 -- what the store does; and the reserve is free for its next block. Each claim is a type; its proof has the claim's name in
 -- proofs/Theorems.antt.
-use Rattle.std.specs.Prelude.{◌≡◌, List, [], ◌∷◌, ◌++◌, ℕ, ◌+◌, ◌≤◌, ◌<◌, length}
-use Rattle.std.proofs.Math.Option.{Option, some, none}
+use Rattle.std.specs.Prelude.{◌≡◌, List, [], ◌∷◌, ◌++◌, ℕ, ◌+◌, ◌≤◌, ◌<◌, length, Option, Some, None}
 use Rattle.lockpage.specs.Geometry.{Geometry}
 use Rattle.lockpage.specs.Entry.{entry, stamp_of, frozen_flag}
 use Rattle.lockpage.specs.State.{state}
@@ -115,10 +114,10 @@ module _ (γ : Geometry) where
       pub distinct : Distinct links
       pub fit : Each (LinkFits (groups γ x.box.memory)) links
       -- with the records not yet stored they say what the store does
-      pub tells : (part : ℕ) → x.versions.newest part ≡ told (λ p. none) (records_of links ++ x.versions.records) part
+      pub tells : (part : ℕ) → x.versions.newest part ≡ told (λ p. None) (records_of links ++ x.versions.records) part
       -- and each newest version is as it was put, under R, by the last time
-      pub held : (part b : ℕ) → x.versions.newest part ≡ some b → VersionHeld x.box b R (last_time γ x.box.memory)
-      pub parts : (part b : ℕ) → x.versions.newest part ≡ some b → part ≤ last_part
+      pub held : (part b : ℕ) → x.versions.newest part ≡ Some b → VersionHeld x.box b R (last_time γ x.box.memory)
+      pub parts : (part b : ℕ) → x.versions.newest part ≡ Some b → part ≤ last_part
 
     -- where the store alone commands the box, from its start
     unfoldable pub LogIsWhole : Type 0

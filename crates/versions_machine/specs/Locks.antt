@@ -1,7 +1,6 @@
 -- Under which locks an accepted put and an accepted store on demand leave the blocks that they change, after document 02, Q-3. Each claim
 -- is a type; its proof has the claim's name in proofs/Theorems.antt.
-use Rattle.std.specs.Prelude.{◌≡◌, true, List, ℕ, length}
-use Rattle.std.proofs.Math.Option.{some}
+use Rattle.std.specs.Prelude.{◌≡◌, true, List, ℕ, length, Some}
 use Rattle.lockpage.specs.Geometry.{Geometry}
 use Rattle.lockpage.specs.declared.Update.TheVariants.{Unfreeze}
 use Rattle.lockpage.specs.Update.{updated}
@@ -18,9 +17,9 @@ module _ (γ : Geometry) (ρ : Range) where
   -- Where the store is alone, a replaced version is neither the block taken nor the reserve
   pub record PutLocks (ν : Versions) (s : Box) (part now : ℕ) (content : List ℕ) (r : Result) : Type 0 where
     -- it "puts each one-block version into a free block with a lock R": frozen under R from now on, with its content
-    pub version : (ν.newest part ≡ some r.block → ⊥) → Holds γ r.box r.block (locked_of content ν.lock now)
+    pub version : (ν.newest part ≡ Some r.block → ⊥) → Holds γ r.box r.block (locked_of content ν.lock now)
     -- "and then unfreezes the version it replaces"
-    pub replaced : (old : ℕ) → ν.newest part ≡ some old → (old ≡ r.block → ⊥) → (fills γ ρ ν s part now ≡ true → old ≡ ν.reserve → ⊥)
+    pub replaced : (old : ℕ) → ν.newest part ≡ Some old → (old ≡ r.block → ⊥) → (fills γ ρ ν s part now ≡ true → old ≡ ν.reserve → ⊥)
         → current_entry γ r.box old ≡ updated Unfreeze now (current_entry γ s old)
     -- the log block is "stored with lock R when full": in the reserve, with the put's record last, and a pointer to the next reserve
     pub log : fills γ ρ ν s part now ≡ true

@@ -1,7 +1,6 @@
 -- The commands of a put and of a log block, each as the store gives it to the controller, after document 02, Q-3. Assumes nothing: these
 -- are definitions.
-use Rattle.std.specs.Prelude.{true, false, List, [], ◌∷◌, ◌++◌, ℕ, eqb}
-use Rattle.std.proofs.Math.Option.{Option, some, none}
+use Rattle.std.specs.Prelude.{true, false, List, [], ◌∷◌, ◌++◌, ℕ, eqb, Option, Some, None}
 use Rattle.octets.specs.Part.{repeated}
 use Rattle.lockpage.specs.Geometry.{Geometry}
 use Rattle.lockpage.specs.declared.Update.{Update}
@@ -60,8 +59,8 @@ plan_of orders after = record { orders = orders; after = after }
 
 -- "and then unfreezes the version it replaces"
 unfoldable pub unfreezes : Option ℕ → ℕ → List Order
-unfreezes none now = []
-unfreezes (some block) now = unfreezing block now ∷ []
+unfreezes None now = []
+unfreezes (Some block) now = unfreezing block now ∷ []
 
 module _ (γ : Geometry) where
   -- given to a box: it brings the current page of the block's group with its tag, as kind 3 answers them

@@ -1,7 +1,6 @@
 -- What the version store keeps from call to call, and its start, after document 02, Q-3, whose keeper it is: "A second library above the
 -- controller, altering it only by its commands". Assumes nothing: these are definitions.
-use Rattle.std.specs.Prelude.{Bool, true, false, ◌&&◌, List, [], ◌∷◌, ◌++◌, ℕ, eqb, leb}
-use Rattle.std.proofs.Math.Option.{Option, some, none}
+use Rattle.std.specs.Prelude.{Bool, true, false, ◌&&◌, List, [], ◌∷◌, ◌++◌, ℕ, eqb, leb, Option, Some, None}
 use Rattle.lockpage.specs.Update.{longest_lock}
 use Rattle.machine.specs.Question.{Question, Put}
 
@@ -15,11 +14,11 @@ abbrev pub no_block : ℕ
 no_block = 4294967295
 
 abbrev pub block_number : Option ℕ → ℕ
-block_number none = no_block
-block_number (some block) = block
+block_number None = no_block
+block_number (Some block) = block
 
 abbrev pub block_named : ℕ → Option ℕ
-block_named n = elim (eqb n no_block) [ true ↦ none | false ↦ some n ]
+block_named n = elim (eqb n no_block) [ true ↦ None | false ↦ Some n ]
 
 -- "a record: part number, block"
 pub record Record : Type 0 where
@@ -57,13 +56,13 @@ start_questions lock = Put 10 (is_lock lock) ∷ []
 
 -- "after the one last taken (block 0 at first)"; "the first in block 0, the reserve at the start": block 0 is the first that it may use
 unfoldable pub start : ℕ → ℕ → Versions
-start first lock = versions_of lock (λ part. none) [] first first
+start first lock = versions_of lock (λ part. None) [] first first
 
 -- ---- what a put and a log block make of it
 
 -- newest with a block for a part
 unfoldable pub replaced_by : (ℕ → Option ℕ) → ℕ → ℕ → ℕ → Option ℕ
-replaced_by newest part block k = elim (eqb k part) [ true ↦ some block | false ↦ newest k ]
+replaced_by newest part block k = elim (eqb k part) [ true ↦ Some block | false ↦ newest k ]
 
 -- "Each put answers its block and adds a record"; the block is now the one last taken
 unfoldable pub entered : Versions → ℕ → ℕ → Versions

@@ -2,11 +2,6 @@
 // crate.
 #![tactic(auto)]
 
-// The numbers answered besides those of machine.
-pub const PART_OUT_OF_RANGE: u32 = 13;
-
-pub const TOO_FEW_FREE: u32 = 14;
-
 // The parts are 0 to this one.
 pub const LAST_PART: u32 = 255;
 

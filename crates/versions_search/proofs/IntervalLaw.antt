@@ -1,7 +1,11 @@
 -- Whether a block is available, and the first that is in an interval of blocks, step by step as the code goes. Assumes nothing.
 use mathlib.Core.Path.{◌≡◌, refl, ap, ap₂, sym, ◌∙◌}
-use mathlib.Core.Bool.{Bool, true, false, not}
-use mathlib.Core.List.{List, ◌∷◌}
+use mathlib.Core.Bool.{Bool, true, false, not, cond}
+use Rattle.std.specs.Prelude.{Option, Some, None, IfSome, option_map}
+use Rattle.std.specs.Option.{unwrap_or}
+use Rattle.std.specs.List.{find, range_with_len}
+use Rattle.std.proofs.lemmas.Option.{same_Some, none-some}
+use mathlib.Core.List.{List, [], ◌∷◌}
 use Prim.Native.Nat.{ℕ, zero, suc, ◌+◌, ◌-◌, ◌≤◌, ◌<◌}
 use native.Mathlib.Omega.{arith}
 use lib.ListN.{length}
@@ -23,34 +27,23 @@ module _ (γ : Geometry) (s : Box) (now reserve a : ℕ) where
   unfolding is_available
   not_available x h e = rw (is_available, sym h ∙ e) e
 
--- ---- the first available block of those from one on
+-- ---- the first block that passes a test
 
-module _ (test : ℕ → Bool) (block end : ℕ) where
-  blocks_more : block < end → blocks_from block (end - block) ≡ block ∷ blocks_from (block + 1) (end - (block + 1))
-  unfolding blocks_from
-  blocks_more h =
-      let n = end - (block + 1) in
-      let one : end - block ≡ suc n = omega arith in
-      ap (blocks_from block) one
+-- as the code goes through them
+blocks_range : (a n : ℕ) → blocks_from a n ≡ range_with_len a n
+unfolding blocks_from
+blocks_range a zero = refl
+blocks_range a (suc n) = ap (λ (l : List ℕ). a ∷ l) (blocks_range (a + 1) n)
 
-  -- one more block is looked at: it is the first, or the search goes on
-  looked_at : block < end → first_that test (blocks_from block (end - block)) end
-      ≡ elim (test block) [ true ↦ block | false ↦ first_that test (blocks_from (block + 1) (end - (block + 1))) end ]
-  unfolding first_that
-  looked_at h = ap (λ (l : List ℕ). first_that test l end) (blocks_more h)
-
-  pub found_here : block < end → test block ≡ true → first_that test (blocks_from block (end - block)) end ≡ block
-  found_here h t = rw (looked_at h, t)
-
-  pub not_here : block < end → test block ≡ false
-      → first_that test (blocks_from block (end - block)) end ≡ first_that test (blocks_from (block + 1) (end - (block + 1))) end
-  not_here h t = rw (looked_at h, t)
-
-  pub nowhere : end ≤ block → first_that test (blocks_from block (end - block)) end ≡ end
-  unfolding first_that blocks_from
-  nowhere h =
-      let none_left : end - block ≡ 0 = omega arith in
-      ap (λ (n : ℕ). first_that test (blocks_from block n) end) none_left
+pub first_found : (test : ℕ → Bool) (l : List ℕ) (other : ℕ) → first_that test l other ≡ unwrap_or (find test l) other
+unfolding first_that
+first_found test [] other = refl
+first_found test (a ∷ l) other = go (first_found test l other) (test a)
+  where
+    go : first_that test l other ≡ unwrap_or (find test l) other → (b : Bool)
+        → elim b [ true ↦ a | false ↦ first_that test l other ] ≡ unwrap_or (cond b (Some a) (find test l)) other
+    go more true = refl
+    go more false = more
 
 -- ---- what a search of an interval has found
 
@@ -60,55 +53,53 @@ passing test from end = length (those test (blocks_from from (end - from)))
 
 -- of n blocks, up to the end, r is the first that passes: the others stand behind it
 pub record FirstOf (test : ℕ → Bool) (n from end r : ℕ) : Type 0 where
-  pub first : (other : ℕ) → first_that test (blocks_from from n) other ≡ r
+  pub below : r < end
   pub passing : length (those test (blocks_from from n)) ≡ 1 + passing test (r + 1) end
 
--- none of them passes
-pub record NoneOf (test : ℕ → Bool) (n from : ℕ) : Type 0 where
-  pub first : (other : ℕ) → first_that test (blocks_from from n) other ≡ other
-  pub passing : length (those test (blocks_from from n)) ≡ 0
-
--- the same of an interval
-abbrev pub Hit : (ℕ → Bool) → ℕ → ℕ → ℕ → Type 0
-Hit test from end r = FirstOf test (end - from) from end r
-
-abbrev pub Miss : (ℕ → Bool) → ℕ → ℕ → Type 0
-Miss test from end = NoneOf test (end - from) from
-
-module _ (test : ℕ → Bool) (end : ℕ) where
-  hit_of : (n from r : ℕ) → from + n ≡ end → r ≡ first_that test (blocks_from from n) end → r < end → FirstOf test n from end r
-  unfolding blocks_from first_that those
-  hit_of zero from r e f h = absurd (omega arith)
-  hit_of (suc n) from r e f h = go (λ k. hit_of n (from + 1) r (omega arith) k h) (test from) refl f
+module _ (test : ℕ → Bool) where
+  hit_of : (n from end r : ℕ) → from + n ≡ end → find test (blocks_from from n) ≡ Some r → FirstOf test n from end r
+  unfolding blocks_from those
+  hit_of zero from end r e f = absurd (none-some r f)
+  hit_of (suc n) from end r e f = go (hit_of n (from + 1) end r (omega arith)) (test from) refl f
     where
-      go : (r ≡ first_that test (blocks_from (from + 1) n) end → FirstOf test n (from + 1) end r) → (b : Bool) → test from ≡ b
-          → r ≡ elim b [ true ↦ from | false ↦ first_that test (blocks_from (from + 1) n) end ] → FirstOf test (suc n) from end r
+      go : (find test (blocks_from (from + 1) n) ≡ Some r → FirstOf test n (from + 1) end r) → (b : Bool) → test from ≡ b
+          → cond b (Some from) (find test (blocks_from (from + 1) n)) ≡ Some r → FirstOf test (suc n) from end r
       go more true t f =
+          let same = same_Some from r f in
           let left : n ≡ end - (r + 1) = omega arith in
           record {
-            first = λ other. rw t (sym f);
-            passing = rw t (ap₂ (λ (k j : ℕ). suc (length (those test (blocks_from (k + 1) j)))) (sym f) left ∙ omega arith);
+            below = omega arith;
+            passing = rw t (ap₂ (λ (k j : ℕ). suc (length (those test (blocks_from (k + 1) j)))) same left ∙ omega arith);
           }
-      go more false t f =
-          let later = more f in
-          record { first = λ other. rw t (later.first other); passing = rw t later.passing }
+      go more false t f = let later = more f in record { below = later.below; passing = rw t later.passing }
 
-  miss_of : (n from r : ℕ) → from + n ≡ end → r ≡ first_that test (blocks_from from n) end → end ≤ r → NoneOf test n from
-  unfolding blocks_from first_that those
-  miss_of zero from r e f h = record { first = λ other. refl; passing = refl }
-  miss_of (suc n) from r e f h = go (λ k. miss_of n (from + 1) r (omega arith) k h) (test from) refl f
+  miss_of : (n from : ℕ) → find test (blocks_from from n) ≡ None → length (those test (blocks_from from n)) ≡ 0
+  unfolding blocks_from those
+  miss_of zero from f = refl
+  miss_of (suc n) from f = go (miss_of n (from + 1)) (test from) refl f
     where
-      go : (r ≡ first_that test (blocks_from (from + 1) n) end → NoneOf test n (from + 1)) → (b : Bool) → test from ≡ b
-          → r ≡ elim b [ true ↦ from | false ↦ first_that test (blocks_from (from + 1) n) end ] → NoneOf test (suc n) from
-      go more true t f = absurd (omega arith)
-      go more false t f =
-          let later = more f in
-          record { first = λ other. rw t (later.first other); passing = rw t later.passing }
+      go : (find test (blocks_from (from + 1) n) ≡ None → length (those test (blocks_from (from + 1) n)) ≡ 0) → (b : Bool) → test from ≡ b
+          → cond b (Some from) (find test (blocks_from (from + 1) n)) ≡ None → length (those test (blocks_from from (suc n))) ≡ 0
+      go more true t f = absurd (none-some from (sym f))
+      go more false t f = rw t (more f)
 
-  -- r is what the search of an interval came to
-  module _ (from r : ℕ) (ordered : from ≤ end) (f : r ≡ first_that test (blocks_from from (end - from)) end) where
-    pub hit : r < end → Hit test from end r
-    hit h = hit_of (end - from) from r (omega arith) f h
+  -- of an interval
+  pub hit : (from end r : ℕ) → from ≤ end → find test (blocks_from from (end - from)) ≡ Some r → FirstOf test (end - from) from end r
+  hit from end r h f = hit_of (end - from) from end r (omega arith) f
 
-    pub miss : end ≤ r → Miss test from end
-    miss h = miss_of (end - from) from r (omega arith) f h
+  pub miss : (from end : ℕ) → find test (blocks_from from (end - from)) ≡ None → passing test from end ≡ 0
+  miss from end f = miss_of (end - from) from f
+
+-- as `find` answers
+pub searched : (test : ℕ → Bool) (from end : ℕ) (o : Option ℕ) → option_map (λ x. x) o ≡ find test (range_with_len from (end - from))
+    → o ≡ find test (blocks_from from (end - from))
+searched test from end o e = same o ∙ e ∙ ap (find test) (sym (blocks_range from (end - from)))
+  where
+    same : (o : Option ℕ) → o ≡ option_map (λ x. x) o
+    same None = refl
+    same (Some r) = refl
+
+pub below_end : (test : ℕ → Bool) (from end : ℕ) (o : Option ℕ) → from ≤ end → o ≡ find test (blocks_from from (end - from))
+    → IfSome o (λ r. r < end)
+below_end test from end None h e = tt
+below_end test from end (Some r) h e = (hit test from end r h (sym e)).below

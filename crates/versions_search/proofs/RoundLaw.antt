@@ -1,10 +1,14 @@
 -- Going round is two intervals, so that two searches find the block that is allocated next, and whether there is another. Assumes nothing.
 use mathlib.Core.Path.{◌≡◌, refl, ap, ap₂, sym, ◌∙◌}
 use mathlib.Core.Bool.{Bool, true, false}
+use Rattle.std.specs.Prelude.{Option, Some, None, MatchOption}
+use Rattle.std.specs.Option.{unwrap_or, option_and}
+use Rattle.std.specs.List.{find}
+use Rattle.std.proofs.lemmas.Option.{none-some}
 use mathlib.Core.List.{List, [], ◌∷◌, ◌++◌, append-nil}
 use Prim.Native.Nat.{ℕ, zero, suc, ◌+◌, ◌-◌, ◌≤◌, ◌<◌}
 use native.Mathlib.Omega.{arith}
-use borrow.Author.Tests.{ltb-true, ltb-false, lt-ltb, le-ltb, le-leb, lt-leb}
+use borrow.Author.Tests.{lt-ltb, le-ltb, le-leb, lt-leb}
 use lib.ListN.{length, length-append}
 use lib.Dec.{leb, ltb}
 use Rattle.lockpage.specs.Geometry.{Geometry}
@@ -14,8 +18,8 @@ use Rattle.machine.specs.Command.{Box}
 use Rattle.versions_machine.specs.Versions.{Range}
 use Rattle.versions_machine.specs.Allocation.{blocks_from, those, going_round, first_that, is_available, whole_box, next_available, two_available}
 use Rattle.versions_machine.proofs.AllocationLaw.{those_append}
-use Rattle.versions_search.specs.Ready.{Behind}
-use Rattle.versions_search.proofs.IntervalLaw.{passing, Hit, Miss, hit, miss}
+use Rattle.versions_search.specs.Ready.{Behind, next_of_two}
+use Rattle.versions_search.proofs.IntervalLaw.{passing, first_found, hit, miss}
 
 -- ---- lists of blocks
 
@@ -98,57 +102,74 @@ module _ (γ : Geometry) (s : Box) (now reserve taken end start : ℕ) (e : end 
   abbrev ρ : Range
   ρ = whole_box γ (groups γ s.memory)
 
-  next_round : next_available γ ρ s now reserve taken
-      ≡ first_that test (blocks_from start (end - start)) (first_that test (blocks_from 0 (start - 0)) taken)
+  -- the first available block of each interval
+  abbrev late : Option ℕ
+  late = find test (blocks_from start (end - start))
+
+  abbrev early : Option ℕ
+  early = find test (blocks_from 0 (start - 0))
+
+  next_round : next_available γ ρ s now reserve taken ≡ unwrap_or late (unwrap_or early taken)
   unfolding next_available
-  next_round = first_round end taken start b test ρ refl (sym e)
+  next_round =
+      first_round end taken start b test ρ refl (sym e)
+      ∙ first_found test (blocks_from start (end - start)) (first_that test (blocks_from 0 (start - 0)) taken)
+      ∙ ap (unwrap_or late) (first_found test (blocks_from 0 (start - 0)) taken)
 
-  -- in the first interval
-  pub next_first : (r : ℕ) → Hit test start end r → r ≡ next_available γ ρ s now reserve taken
-  next_first r h = sym (next_round ∙ h.first _)
+  next_late : (r : ℕ) → late ≡ Some r → next_available γ ρ s now reserve taken ≡ r
+  next_late r f = next_round ∙ ap (λ (o : Option ℕ). unwrap_or o (unwrap_or early taken)) f
 
-  -- in the second
-  pub next_second : (r : ℕ) → Miss test start end → Hit test 0 start r → r ≡ next_available γ ρ s now reserve taken
-  next_second r m h = sym (next_round ∙ m.first _ ∙ h.first taken)
+  next_early : late ≡ None → next_available γ ρ s now reserve taken ≡ unwrap_or early taken
+  next_early f = next_round ∙ ap (λ (o : Option ℕ). unwrap_or o (unwrap_or early taken)) f
 
-  -- in neither
-  pub next_none : Miss test start end → Miss test 0 start → taken ≡ next_available γ ρ s now reserve taken
-  next_none m n = sym (next_round ∙ m.first _ ∙ n.first taken)
+  -- of the two searches, the first that comes to a block
+  pub next_looked : (later both : Option ℕ) → later ≡ late → MatchOption later (both ≡ early) (λ x. both ≡ Some x)
+      → unwrap_or both taken ≡ next_available γ ρ s now reserve taken
+  next_looked None both f m = ap (λ (o : Option ℕ). unwrap_or o taken) m ∙ sym (next_early (sym f))
+  next_looked (Some r) both f m = ap (λ (o : Option ℕ). unwrap_or o taken) m ∙ sym (next_late r (sym f))
 
   -- how many are available
-  two_round : two_available γ ρ s now reserve ≡ leb 2 (passing test 0 start + passing test start end)
+  abbrev total : ℕ
+  total = passing test 0 start + passing test start end
+
+  two_round : two_available γ ρ s now reserve ≡ leb 2 total
   unfolding two_available
   two_round = ap (λ (n : ℕ). leb 2 (length (those test (blocks_from 0 n)))) (sym e) ∙ ap (leb 2) (passing_round end taken start b test)
 
-  -- by the last search, that of block q before the bound: whether it came to one
-  decided : (q bound : ℕ) → (q < bound → 2 ≤ passing test 0 start + passing test start end)
-      → (bound ≤ q → passing test 0 start + passing test start end < 2) → ltb q bound ≡ two_available γ ρ s now reserve
-  decided q bound enough few = go (ltb q bound) refl ∙ sym two_round
-    where
-      go : (x : Bool) → ltb q bound ≡ x → ltb q bound ≡ leb 2 (passing test 0 start + passing test start end)
-      go true h = h ∙ sym (le-leb 2 (passing test 0 start + passing test start end) (enough (ltb-true q bound h)))
-      go false h = h ∙ sym (lt-leb 2 (passing test 0 start + passing test start end) (few (ltb-false q bound h)))
+  abbrev answer : Bool → Option ℕ
+  answer two = elim two [ true ↦ Some (next_available γ ρ s now reserve taken) | false ↦ None ]
 
-  -- both in the first interval
-  pub two_first : (r q : ℕ) → Hit test start end r → q < end → Hit test (r + 1) end q → ltb q end ≡ two_available γ ρ s now reserve
-  two_first r q h l k =
-      lt-ltb q end l
-      ∙ sym (two_round ∙ le-leb 2 (passing test 0 start + passing test start end) (omega (arith, h.passing, k.passing)))
+  few_answer : total < 2 → next_of_two γ ρ s now reserve taken ≡ None
+  few_answer h = ap answer (two_round ∙ lt-leb 2 total h)
 
-  -- one there; the other, if any, in the second
-  pub two_apart : (r q : ℕ) → Hit test start end r → Miss test (r + 1) end → q ≡ first_that test (blocks_from 0 (start - 0)) start
-      → ltb q start ≡ two_available γ ρ s now reserve
-  two_apart r q h m f =
-      decided q start (λ l. omega (arith, h.passing, (hit test start 0 q (omega arith) f l).passing))
-      (λ l. omega (arith, h.passing, m.passing, (miss test start 0 q (omega arith) f l).passing))
+  -- r is the first, and o what the search for another one comes to
+  decided : (o : Option ℕ) (r : ℕ) → next_available γ ρ s now reserve taken ≡ r → ((q : ℕ) → o ≡ Some q → 2 ≤ total)
+      → (o ≡ None → total < 2) → option_and o (Some r) ≡ next_of_two γ ρ s now reserve taken
+  decided None r n enough few = sym (few_answer (few refl))
+  decided (Some q) r n enough few = sym (ap answer (two_round ∙ le-leb 2 total (enough q refl)) ∙ ap Some n)
+
+  -- one in the first interval; the other, if any, behind it there, or else in the second
+  pub two_late : (r : ℕ) (second both : Option ℕ) → late ≡ Some r → second ≡ find test (blocks_from (r + 1) (end - (r + 1)))
+      → MatchOption second (both ≡ early) (λ x. both ≡ Some x) → option_and both (Some r) ≡ next_of_two γ ρ s now reserve taken
+  two_late r (Some q) both f g m =
+      let first = hit test start end r b.within f in
+      let more = hit test (r + 1) end q (omega (arith, first.below)) (sym g) in
+      decided both r (next_late r f) (λ k x. omega (arith, first.passing, more.passing)) (λ x. absurd (none-some q (sym x ∙ m)))
+  two_late r None both f g m =
+      let first = hit test start end r b.within f in
+      let rest = miss test (r + 1) end (sym g) in
+      decided both r (next_late r f) (λ k x. omega (arith, first.passing, (hit test 0 start k (omega arith) (sym m ∙ x)).passing))
+      (λ x. omega (arith, first.passing, rest, miss test 0 start (sym m ∙ x)))
 
   -- none there; both, if any, in the second
-  pub two_second : (r q : ℕ) → Miss test start end → Hit test 0 start r → r < start
-      → q ≡ first_that test (blocks_from (r + 1) (start - (r + 1))) start → ltb q start ≡ two_available γ ρ s now reserve
-  two_second r q m h before f =
-      decided q start (λ l. omega (arith, h.passing, (hit test start (r + 1) q (omega arith) f l).passing))
-      (λ l. omega (arith, m.passing, h.passing, (miss test start (r + 1) q (omega arith) f l).passing))
+  pub two_early : (r : ℕ) (second : Option ℕ) → late ≡ None → early ≡ Some r → second ≡ find test (blocks_from (r + 1) (start - (r + 1)))
+      → option_and second (Some r) ≡ next_of_two γ ρ s now reserve taken
+  two_early r second f g k =
+      let rest = miss test start end f in
+      let first = hit test 0 start r (omega arith) g in
+      decided second r (next_early f ∙ ap (λ (o : Option ℕ). unwrap_or o taken) g)
+      (λ q x. omega (arith, first.passing, (hit test (r + 1) start q (omega (arith, first.below)) (sym k ∙ x)).passing))
+      (λ x. omega (arith, rest, first.passing, miss test (r + 1) start (sym k ∙ x)))
 
-  pub two_none : Miss test start end → Miss test 0 start → false ≡ two_available γ ρ s now reserve
-  two_none m n =
-      sym (two_round ∙ lt-leb 2 (passing test 0 start + passing test start end) (omega (arith, m.passing, n.passing)))
+  pub two_none : late ≡ None → early ≡ None → None ≡ next_of_two γ ρ s now reserve taken
+  two_none f g = sym (few_answer (omega (arith, miss test start end f, miss test 0 start g)))

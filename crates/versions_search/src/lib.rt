@@ -1,60 +1,37 @@
 // Which block is allocated next. The contracts cite the definitions of versions_machine, and specs/ what is taken for granted.
 #![tactic(auto)]
 
-ghost use Rattle.std.specs.Prelude.{◌≡◌, true, ◌-◌, length};
+ghost use Rattle.std.specs.Prelude.{◌≡◌, true, ◌-◌, ◌<◌, IfSome};
+ghost use Rattle.std.specs.List.{find};
 ghost use Rattle.lockpage.specs.Geometry.{present};
-ghost use Rattle.addressing.specs.Map.{data_blocks, group_of};
-ghost use Rattle.disk.specs.Disk.{HasGroup};
-ghost use Rattle.memory.specs.Layout.{memory_size};
+ghost use Rattle.addressing.specs.Map.{data_blocks};
 ghost use Rattle.memory.specs.Memory.{groups};
 ghost use Rattle.validity.specs.Valid.{valid};
 ghost use Rattle.machine.specs.Call.{box_at};
 ghost use Rattle.machine.specs.Claims.{ValidBox};
-ghost use Rattle.versions_machine.specs.Allocation.{is_free, is_available, blocks_from, first_that, whole_box, next_available, two_available};
-ghost use Rattle.versions_search.specs.Ready.{SearchReady, Behind};
+ghost use Rattle.versions_machine.specs.Allocation.{is_available, blocks_from, whole_box, next_available};
+ghost use Rattle.versions_search.specs.Ready.{SearchReady, Behind, next_of_two};
 
 use lockpage::{State, states};
 use versions_machine::FIRST_BLOCK;
 
-// The block that is allocated next, and whether another one besides it is available.
-#[derive(Clone, Copy)]
-pub struct Found {
-    pub block: u32,
-    pub two: bool,
-}
-
-fn is_free(s: State) -> bool
-    ensures { result ≡ is_free s }
-{
-    match s {
-        State::Free => true,
-        State::Frozen => false,
-        State::Counting => false,
-    }
-}
-
 // Whether a block is free, and is not the reserve. Its entry is read where it lies.
+#[tactic(auto, using(crate::proofs::IntervalLaw::available_free, crate::proofs::IntervalLaw::not_available))]
 fn is_available(memory: &[u8], disk: &[u8], time: u32, reserve: u32, block: u32) -> bool
-    requires { (length memory.now ≡ memory_size present) × HasGroup present disk.now (group_of present block) }
+    requires { ValidBox present (box_at memory.now disk.now) × (block < data_blocks present (groups present memory.now)) }
     ensures { result ≡ is_available present (box_at memory.now disk.now) time reserve block }
 {
     let e = current_page::entry(memory, disk, block);
-    is_free(states::state(e, time)) && block != reserve
+    matches!(states::state(e, time), State::Free) && block != reserve
 }
 
-// The first available block from one on, before the end, or the end where there is none.
-fn next_in(memory: &[u8], disk: &[u8], time: u32, reserve: u32, from: u32, end: u32) -> u32
+// The first available block from one on, before the end.
+fn next_in(memory: &[u8], disk: &[u8], time: u32, reserve: u32, from: u32, end: u32) -> Option<u32>
     requires { SearchReady present (box_at memory.now disk.now) from end }
-    ensures { result ≡ first_that (is_available present (box_at memory.now disk.now) time reserve) (blocks_from from (end - from)) end }
+    ensures found { result ≡ find (is_available present (box_at memory.now disk.now) time reserve) (blocks_from from (end - from)) }
+    ensures below { IfSome result (λ r. r < end) }
 {
-    let mut block = from;
-    while block < end {
-        if is_available(memory, disk, time, reserve, block) {
-            return block;
-        }
-        block += 1;
-    }
-    end
+    (from..end).find(|&block| is_available(memory, disk, time, reserve, block))
 }
 
 // The number of the box's blocks.
@@ -80,42 +57,23 @@ pub fn next(memory: &[u8], disk: &[u8], time: u32, reserve: u32, taken: u32) -> 
 {
     let end = end_of(memory);
     let start = behind(taken, end);
-    let first = next_in(memory, disk, time, reserve, start, end);
-    if first < end {
-        return first;
-    }
-    let second = next_in(memory, disk, time, reserve, FIRST_BLOCK, start);
-    if second < start { second } else { taken }
+    let later = next_in(memory, disk, time, reserve, start, end);
+    let found = later.or_else(|| next_in(memory, disk, time, reserve, FIRST_BLOCK, start));
+    found.unwrap_or(taken)
 }
 
-// The block that is allocated next, and whether there is another one besides it. The search stops at the second.
-pub fn two(memory: &[u8], disk: &[u8], time: u32, reserve: u32, taken: u32) -> Found
+// The block that is allocated next, where there is another one besides it. The search stops at the second.
+pub fn two(memory: &[u8], disk: &[u8], time: u32, reserve: u32, taken: u32) -> Option<u32>
     requires { ValidBox present (box_at memory.now disk.now) }
-    ensures { (result.block ≡ next_available present (whole_box present (groups present memory.now)) (box_at memory.now disk.now)
-        time reserve taken)
-        × (result.two ≡ two_available present (whole_box present (groups present memory.now)) (box_at memory.now disk.now) time reserve) }
+    ensures { result ≡ next_of_two present (whole_box present (groups present memory.now)) (box_at memory.now disk.now) time reserve taken }
 {
     let end = end_of(memory);
     let start = behind(taken, end);
-    let later = next_in(memory, disk, time, reserve, start, end);
-    if later < end {
-        let another = next_in(memory, disk, time, reserve, later + 1, end) < end
-            || next_in(memory, disk, time, reserve, FIRST_BLOCK, start) < start;
-        return Found {
-            block: later,
-            two: another,
-        };
+    if let Some(later) = next_in(memory, disk, time, reserve, start, end) {
+        return next_in(memory, disk, time, reserve, later + 1, end)
+            .or_else(|| next_in(memory, disk, time, reserve, FIRST_BLOCK, start))
+            .and(Some(later));
     }
-    let earlier = next_in(memory, disk, time, reserve, FIRST_BLOCK, start);
-    if earlier < start {
-        let another = next_in(memory, disk, time, reserve, earlier + 1, start) < start;
-        return Found {
-            block: earlier,
-            two: another,
-        };
-    }
-    Found {
-        block: taken,
-        two: false,
-    }
+    let earlier = next_in(memory, disk, time, reserve, FIRST_BLOCK, start)?;
+    next_in(memory, disk, time, reserve, earlier + 1, start).and(Some(earlier))
 }

@@ -2,45 +2,62 @@
 use mathlib.Core.Path.{◌≡◌, refl, ap, ap₂, sym, ◌∙◌}
 use mathlib.Core.Bool.{Bool, true, false, ◌&&◌, ◌||◌}
 use mathlib.Core.List.{List, all}
+use Rattle.std.specs.Prelude.{Option, Some, None}
+use Rattle.std.specs.List.{list_all, range_with_len}
+use Rattle.std.proofs.lemmas.Option.{same_Some, none-some}
 use Prim.Native.Nat.{ℕ, zero, suc, ◌+◌, ◌≤◌, ◌<◌}
 use native.Mathlib.Numerals.{add-one}
-use borrow.Author.Tests.{eq-eqb, ne_eqb, le-leb, lt-leb}
-use lib.Dec.{leb}
+use borrow.Author.Tests.{le-leb, lt-leb}
+use lib.Dec.{eqb, leb, ltb}
 use Rattle.octets.specs.Number.{number_at}
 use Rattle.lockpage.specs.Geometry.{present}
-use Rattle.lockpage.specs.Update.{longest_lock}
 use Rattle.machine.specs.Query.{listed}
+use Rattle.addressing.specs.Map.{data_blocks}
 use Rattle.machine.proofs.ListedLaw.{all_none, all_cons}
-use Rattle.versions_machine.specs.Versions.{no_block, block_number, Record, is_lock}
+use Rattle.versions_machine.specs.Versions.{no_block, block_named, Record}
 use Rattle.versions_machine.specs.Log.{record_field}
 use Rattle.versions_machine.specs.Allocation.{blocks_from}
 use Rattle.versions_machine.specs.Call.{last_part}
 use Rattle.versions_state.specs.Layout.{parts, record_start}
 use Rattle.versions_state.specs.State.{newest_number, record_in, records_in, versions_in, is_block, is_newest, is_record, newests_fit}
-use Rattle.versions_state.proofs.ReadLaw.{newest_number_lem}
-
--- ---- a lock
-
-pub no_lock : (lock : ℕ) → lock < 1 → false ≡ is_lock lock
-no_lock lock h = sym (ap (λ (b : Bool). b && leb lock longest_lock) (lt-leb 1 lock h))
-
-pub some_lock : (lock : ℕ) → 1 ≤ lock → leb lock longest_lock ≡ is_lock lock
-some_lock lock h = sym (ap (λ (b : Bool). b && leb lock longest_lock) (le-leb 1 lock h))
+use Rattle.versions_state.proofs.ReadLaw.{newest_read}
 
 -- ---- a block
 
-pub none_is_newest : (n : ℕ) → n ≡ no_block → true ≡ is_newest present n
-none_is_newest n e = sym (ap (λ (b : Bool). b || is_block present n) (eq-eqb n no_block e))
+-- layout::MOST_BLOCKS
+abbrev most_blocks : ℕ
+most_blocks = 4096
 
-pub other_is_newest : (n : ℕ) → (n ≡ no_block → ⊥) → is_block present n ≡ is_newest present n
-other_is_newest n h = sym (ap (λ (b : Bool). b || is_block present n) (ne_eqb n no_block h))
+block_below : (block : ℕ) → is_block present block ≡ ltb block most_blocks
+unfolding data_blocks
+block_below block = refl
+
+-- a number in a part's place, and the block that it names, if it names one
+none_named : (n : ℕ) → block_named n ≡ None → is_newest present n ≡ true
+none_named n e = go (eqb n no_block) refl e
+  where
+    go : (b : Bool) → eqb n no_block ≡ b → ◌≡◌ {A = Option ℕ} (elim b [ true ↦ None | false ↦ Some n ]) None → is_newest present n ≡ true
+    go true t e = ap (λ (x : Bool). x || is_block present n) t
+    go false t e = absurd (none-some n (sym e))
+
+block_named_fits : (n block : ℕ) → block_named n ≡ Some block → is_newest present n ≡ is_block present block
+block_named_fits n block e = go (eqb n no_block) refl e
+  where
+    go : (b : Bool) → eqb n no_block ≡ b → ◌≡◌ {A = Option ℕ} (elim b [ true ↦ None | false ↦ Some n ]) (Some block)
+        → is_newest present n ≡ is_block present block
+    go true t e = absurd (none-some block e)
+    go false t e = ap (λ (x : Bool). x || is_block present n) t ∙ ap (is_block present) (same_Some n block e)
+
+module _ (state : List ℕ) (p : ℕ) (h : p ≤ last_part) where
+  pub none_fits : (versions_in state).newest p ≡ None → is_newest present (newest_number state p) ≡ true
+  unfolding versions_in
+  none_fits e = none_named (newest_number state p) (sym (newest_read state p h) ∙ e)
+
+  pub block_fits : (block : ℕ) → (versions_in state).newest p ≡ Some block → is_newest present (newest_number state p) ≡ ltb block most_blocks
+  unfolding versions_in
+  block_fits block e = block_named_fits (newest_number state p) block (sym (newest_read state p h) ∙ e) ∙ block_below block
 
 module _ (state : List ℕ) where
-  pub newest_looked : (p n : ℕ) (r : Bool) → p ≤ last_part → n ≡ block_number ((versions_in state).newest p) → r ≡ is_newest present n
-      → r ≡ is_newest present (newest_number state p)
-  unfolding versions_in
-  newest_looked p n r h en er = er ∙ ap (is_newest present) (en ∙ newest_number_lem state p h)
-
   -- ---- a record, by the numbers that were read
 
   module _ (i at part block : ℕ) (ea : at ≡ record_start i) (ep : part ≡ number_at state at record_field)
@@ -54,36 +71,38 @@ module _ (state : List ℕ) where
     pub no_part : last_part < part → false ≡ is_record present (record_in state i)
     no_part h = sym (looked ∙ ap (λ (b : Bool). b && is_block present block) (lt-leb part last_part h))
 
-    pub some_part : part ≤ last_part → is_block present block ≡ is_record present (record_in state i)
-    some_part h = sym (looked ∙ ap (λ (b : Bool). b && is_block present block) (le-leb part last_part h))
+    pub some_part : part ≤ last_part → is_record present (record_in state i) ≡ ltb block most_blocks
+    some_part h = looked ∙ ap (λ (b : Bool). b && is_block present block) (le-leb part last_part h) ∙ block_below block
 
 -- ---- all of them
 
--- the places from one on
-abbrev pub places : ℕ → ℕ → List ℕ
-places i n = listed (λ k. k) i n
-
-pub from_listed : (p : ℕ → Bool) (a n : ℕ) → all (blocks_from a n) p ≡ all (places a n) p
+-- in the words of the questions, which the crates above read them by, and in those of a range
+pub from_listed : (test : ℕ → Bool) (a n : ℕ) → all (blocks_from a n) test ≡ all (listed (λ k. k) a n) test
 unfolding blocks_from listed
-from_listed p a zero = refl
-from_listed p a (suc n) =
-    all_cons p a (blocks_from (a + 1) n)
-    ∙ ap (λ (b : Bool). p a && b) (from_listed p (a + 1) n ∙ ap (λ (k : ℕ). all (places k n) p) (add-one a))
-    ∙ sym (all_cons p a (places (suc a) n))
+from_listed test a zero = refl
+from_listed test a (suc n) =
+    all_cons test a (blocks_from (a + 1) n)
+    ∙ ap (λ (b : Bool). test a && b) (from_listed test (a + 1) n ∙ ap (λ (k : ℕ). all (listed (λ j. j) k n) test) (add-one a))
+    ∙ sym (all_cons test a (listed (λ j. j) (suc a) n))
 
-records_listed : (state : List ℕ) (q : Record → Bool) (from n : ℕ) → all (records_in state from n) q ≡ all (places from n) (λ i. q (record_in state i))
-unfolding records_in listed
-records_listed state q from zero = all_none q ∙ sym (all_none (λ (i : ℕ). q (record_in state i)))
-records_listed state q from (suc n) =
-    all_cons q (record_in state from) (records_in state (from + 1) n)
-    ∙ ap (λ (b : Bool). q (record_in state from) && b)
-    (records_listed state q (from + 1) n ∙ ap (λ (k : ℕ). all (places k n) (λ i. q (record_in state i))) (add-one from))
-    ∙ sym (all_cons (λ (i : ℕ). q (record_in state i)) from (places (suc from) n))
+from_range : (test : ℕ → Bool) (a n : ℕ) → all (blocks_from a n) test ≡ list_all test (range_with_len a n)
+unfolding blocks_from
+from_range test a zero = all_none test
+from_range test a (suc n) = all_cons test a (blocks_from (a + 1) n) ∙ ap (λ (b : Bool). test a && b) (from_range test (a + 1) n)
+
+records_listed : (state : List ℕ) (test : Record → Bool) (from n : ℕ)
+    → all (records_in state from n) test ≡ list_all (λ i. test (record_in state i)) (range_with_len from n)
+unfolding records_in
+records_listed state test from zero = all_none test
+records_listed state test from (suc n) =
+    all_cons test (record_in state from) (records_in state (from + 1) n)
+    ∙ ap (λ (b : Bool). test (record_in state from) && b) (records_listed state test (from + 1) n)
 
 module _ (state : List ℕ) (r : Bool) where
-  pub newests_looked : r ≡ all (places 0 parts) (λ p. is_newest present (newest_number state p)) → r ≡ newests_fit present state
+  pub newests_looked : r ≡ list_all (λ p. is_newest present (newest_number state p)) (range_with_len 0 parts) → r ≡ newests_fit present state
   unfolding newests_fit
-  newests_looked e = e ∙ sym (from_listed (λ p. is_newest present (newest_number state p)) 0 parts)
+  newests_looked e = e ∙ sym (from_range (λ p. is_newest present (newest_number state p)) 0 parts)
 
-  pub records_looked : (n : ℕ) → r ≡ all (places 0 n) (λ i. is_record present (record_in state i)) → r ≡ all (records_in state 0 n) (is_record present)
+  pub records_looked : (n : ℕ) → r ≡ list_all (λ i. is_record present (record_in state i)) (range_with_len 0 n)
+      → r ≡ all (records_in state 0 n) (is_record present)
   records_looked n e = e ∙ sym (records_listed state (is_record present) 0 n)

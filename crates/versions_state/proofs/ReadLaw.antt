@@ -1,8 +1,9 @@
 -- What is read from a state: each field is a part of its bytes, and so its bytes are those of what is read. Assumes nothing.
 use mathlib.Core.Path.{◌≡◌, refl, ap, ap₂, sym, ◌∙◌}
-use mathlib.Core.Bool.{Bool, true, false}
+use mathlib.Core.Bool.{Bool, true, false, not}
+use Rattle.std.specs.Bool.{then_some}
 use mathlib.Core.List.{List, ◌++◌}
-use mathlib.Core.Option.{some, none}
+use Rattle.std.specs.Prelude.{Some, None}
 use Prim.Native.Nat.{ℕ, zero, suc, ◌+◌, ◌-◌, ◌*◌, ◌≤◌}
 use native.Mathlib.Omega.{arith}
 use borrow.Author.Tests.{eqb-true, le-leb}
@@ -25,21 +26,31 @@ use Rattle.versions_state.specs.State.{newest_bytes, records_area, state_bytes, 
 named_number : (n : ℕ) → block_number (block_named n) ≡ n
 named_number n = go (eqb n no_block) refl
   where
-    go : (b : Bool) → eqb n no_block ≡ b → block_number (elim b [ true ↦ none | false ↦ some n ]) ≡ n
+    go : (b : Bool) → eqb n no_block ≡ b → block_number (elim b [ true ↦ None | false ↦ Some n ]) ≡ n
     go true e = sym (eqb-true n no_block e)
     go false e = refl
 
 -- a part's place has its newest block
-pub newest_number_lem : (state : List ℕ) (p : ℕ) → p ≤ last_part → block_number (newest_in state p) ≡ newest_number state p
+pub newest_read : (state : List ℕ) (p : ℕ) → p ≤ last_part → newest_in state p ≡ block_named (newest_number state p)
 unfolding newest_in
-newest_number_lem state p h =
-    ap (λ (b : Bool). block_number (elim b [ true ↦ block_named (newest_number state p) | false ↦ none ])) (le-leb p last_part h)
-    ∙ named_number (newest_number state p)
+newest_read state p h = ap (λ (b : Bool). elim b [ true ↦ block_named (newest_number state p) | false ↦ None ]) (le-leb p last_part h)
 
-pub newest_loaded : (state : List ℕ) (r at p : ℕ) → p ≤ last_part → at ≡ newest_start p → r ≡ number_at state at field_size
-    → r ≡ block_number ((versions_in state).newest p)
+pub newest_number_lem : (state : List ℕ) (p : ℕ) → p ≤ last_part → block_number (newest_in state p) ≡ newest_number state p
+newest_number_lem state p h = ap block_number (newest_read state p h) ∙ named_number (newest_number state p)
+
+-- as the code reads it
+pub newest_loaded : (state : List ℕ) (n at p : ℕ) → p ≤ last_part → at ≡ newest_start p → n ≡ number_at state at field_size
+    → then_some (not (eqb n no_block)) n ≡ (versions_in state).newest p
 unfolding versions_in newest_number
-newest_loaded state r at p h ea er = er ∙ ap (λ (k : ℕ). number_at state k field_size) ea ∙ sym (newest_number_lem state p h)
+newest_loaded state n at p h ea en =
+    named n ∙ ap block_named (en ∙ ap (λ (k : ℕ). number_at state k field_size) ea) ∙ sym (newest_read state p h)
+  where
+    named : (n : ℕ) → then_some (not (eqb n no_block)) n ≡ block_named n
+    named n = go (eqb n no_block)
+      where
+        go : (b : Bool) → then_some (not b) n ≡ elim b [ true ↦ None | false ↦ Some n ]
+        go true = refl
+        go false = refl
 
 -- ---- the bytes of what is read
 

@@ -1,8 +1,7 @@
 -- The store's state as bytes: written from what the store keeps, read from any bytes, and which bytes no start and calls can have left.
 -- Assumes nothing: these are definitions.
-use Rattle.std.specs.Prelude.{Bool, true, false, ◌&&◌, ◌||◌, ℕ, zero, suc, ◌+◌, ◌-◌, ◌*◌, length, eqb, leb, ltb}
+use Rattle.std.specs.Prelude.{Bool, true, false, ◌&&◌, ◌||◌, ℕ, zero, suc, ◌+◌, ◌-◌, ◌*◌, length, eqb, leb, ltb, Option, None}
 use mathlib.Core.List.{List, [], ◌∷◌, ◌++◌, all}
-use Rattle.std.proofs.Math.Option.{Option, none}
 use Rattle.octets.specs.Part.{part, repeated, equal}
 use Rattle.octets.specs.Number.{bytes, number_at}
 use Rattle.lockpage.specs.Geometry.{Geometry}
@@ -43,7 +42,7 @@ unfoldable pub newest_number : List ℕ → ℕ → ℕ
 newest_number state part = number_at state (newest_start part) field_size
 
 unfoldable pub newest_in : List ℕ → ℕ → Option ℕ
-newest_in state part = elim (leb part last_part) [ true ↦ block_named (newest_number state part) | false ↦ none ]
+newest_in state part = elim (leb part last_part) [ true ↦ block_named (newest_number state part) | false ↦ None ]
 
 unfoldable pub record_in : List ℕ → ℕ → Record
 record_in state i = record_at state (record_start i)

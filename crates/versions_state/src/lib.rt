@@ -5,14 +5,15 @@
 ghost use Rattle.std.specs.Prelude.{◌≡◌, true, ◌≤◌, ◌<◌, length};
 ghost use mathlib.Core.List.{all};
 ghost use Rattle.lockpage.specs.Geometry.{present};
-ghost use Rattle.versions_machine.specs.Versions.{block_number, is_lock};
+ghost use Rattle.versions_machine.specs.Versions.{is_lock};
 ghost use Rattle.versions_machine.specs.Call.{last_part};
 ghost use Rattle.versions_state.specs.Layout.{most_records, state_size};
-ghost use Rattle.versions_state.specs.State.{record_count, record_in, records_in, versions_in, is_newest, is_record, newests_fit, is_valid};
+ghost use Rattle.versions_state.specs.State.{record_count, record_in, records_in, versions_in, newest_number, is_newest, is_record, newests_fit, is_valid};
 
 pub mod layout;
 
 // The lock R.
+#[tactic(auto, unfolding(crate::specs::State::versions_in))]
 pub fn lock(state: &[u8]) -> u32
     requires { length state.now ≡ state_size present }
     ensures { result ≡ (versions_in state.now).lock }
@@ -21,6 +22,7 @@ pub fn lock(state: &[u8]) -> u32
 }
 
 // The reserved block.
+#[tactic(auto, unfolding(crate::specs::State::versions_in))]
 pub fn reserve(state: &[u8]) -> u32
     requires { length state.now ≡ state_size present }
     ensures { result ≡ (versions_in state.now).reserve }
@@ -29,6 +31,7 @@ pub fn reserve(state: &[u8]) -> u32
 }
 
 // The block last taken.
+#[tactic(auto, unfolding(crate::specs::State::versions_in))]
 pub fn taken(state: &[u8]) -> u32
     requires { length state.now ≡ state_size present }
     ensures { result ≡ (versions_in state.now).taken }
@@ -37,6 +40,7 @@ pub fn taken(state: &[u8]) -> u32
 }
 
 // How many records no log block has yet.
+#[tactic(auto, unfolding(crate::specs::State::record_count))]
 pub fn record_count(state: &[u8]) -> u32
     requires { length state.now ≡ state_size present }
     ensures { result ≡ record_count state.now }
@@ -44,52 +48,42 @@ pub fn record_count(state: &[u8]) -> u32
     octets::load_u32(state, layout::RECORD_COUNT_START)
 }
 
-// The block of a part's newest version, or NO_BLOCK.
-pub fn newest(state: &[u8], part: u32) -> u32
+// The block of a part's newest version.
+#[tactic(auto, using(crate::proofs::ReadLaw::newest_loaded))]
+pub fn newest(state: &[u8], part: u32) -> Option<u32>
     requires { (length state.now ≡ state_size present) × (part ≤ last_part) }
-    ensures { result ≡ block_number ((versions_in state.now).newest part) }
+    ensures { result ≡ (versions_in state.now).newest part }
 {
-    octets::load_u32(state, layout::newest_start(part))
+    let block = octets::load_u32(state, layout::newest_start(part));
+    (block != versions_machine::NO_BLOCK).then_some(block)
 }
 
 // Question 10 of a lock.
 pub fn is_lock(lock: u32) -> bool
     ensures { result ≡ is_lock lock }
 {
-    if lock < 1 {
-        return false;
-    }
-    lock as u64 <= lockpage::updates::LONGEST_LOCK
+    lock >= 1 && lock as u64 <= lockpage::updates::LONGEST_LOCK
 }
 
-// Whether n is none or a data block of the largest box.
-fn is_newest(n: u32) -> bool
-    ensures { result ≡ is_newest present n }
+// Whether a part's newest block, if it has one, is a data block of the largest box.
+#[tactic(auto, using(crate::proofs::CheckLaw::none_fits, crate::proofs::CheckLaw::block_fits))]
+fn newest_fits(state: &[u8], part: u32) -> bool
+    requires { (length state.now ≡ state_size present) × (part ≤ last_part) }
+    ensures { result ≡ is_newest present (newest_number state.now part) }
 {
-    if n == versions_machine::NO_BLOCK {
-        return true;
-    }
-    n < layout::MOST_BLOCKS
+    newest(state, part).is_none_or(|block| block < layout::MOST_BLOCKS)
 }
 
-// Whether each part's newest block is one. All are looked at, so that the loop has one way out.
+// Whether each part's newest block is one.
 fn newests_fit(state: &[u8]) -> bool
     requires { length state.now ≡ state_size present }
     ensures { result ≡ newests_fit present state.now }
 {
-    let mut fit = true;
-    let mut i = layout::PARTS;
-    while i > 0 {
-        i -= 1;
-        if !is_newest(newest(state, i)) {
-            fit = false;
-        }
-    }
-    fit
+    (0..layout::PARTS).all(|part| newest_fits(state, part))
 }
 
 // Whether record i can be one.
-#[tactic(auto, using(crate::proofs::CheckLaw::no_part))]
+#[tactic(auto, using(crate::proofs::CheckLaw::no_part, crate::proofs::CheckLaw::some_part))]
 fn record_fits(state: &[u8], i: u32) -> bool
     requires { (length state.now ≡ state_size present) × (i < most_records present) }
     ensures { result ≡ is_record present (record_in state.now i) }
@@ -97,26 +91,15 @@ fn record_fits(state: &[u8], i: u32) -> bool
     let at = layout::record_start(i);
     let part = octets::load_u32(state, at);
     let block = octets::load_u32(state, at + layout::RECORD_FIELD);
-    if part > versions_machine::LAST_PART {
-        return false;
-    }
-    block < layout::MOST_BLOCKS
+    part <= versions_machine::LAST_PART && block < layout::MOST_BLOCKS
 }
 
-// Whether the first n records can be some. All are looked at, so that the loop has one way out.
+// Whether the first n records can be some.
 fn records_fit(state: &[u8], n: u32) -> bool
     requires { (length state.now ≡ state_size present) × (n ≤ most_records present) }
     ensures { result ≡ all (records_in state.now 0 n) (is_record present) }
 {
-    let mut fit = true;
-    let mut i = n;
-    while i > 0 {
-        i -= 1;
-        if !record_fits(state, i) {
-            fit = false;
-        }
-    }
-    fit
+    (0..n).all(|i| record_fits(state, i))
 }
 
 // Question 1 of the state: whether a start and calls can have left it, as far as its bytes tell.
@@ -126,19 +109,13 @@ pub fn valid(state: &[u8]) -> bool
     if state.len() != layout::STATE_SIZE {
         return false;
     }
-    if !is_lock(lock(state)) {
-        return false;
-    }
     let n = record_count(state);
     if n > layout::MOST_RECORDS {
         return false;
     }
-    if !newests_fit(state) {
-        return false;
-    }
-    if !records_fit(state, n) {
-        return false;
-    }
     let rest = layout::RECORD_SIZE * (layout::MOST_RECORDS - n) as usize;
-    octets::filled(state, layout::record_start(n), rest, layout::UNUSED)
+    is_lock(lock(state))
+        && newests_fit(state)
+        && records_fit(state, n)
+        && octets::filled(state, layout::record_start(n), rest, layout::UNUSED)
 }

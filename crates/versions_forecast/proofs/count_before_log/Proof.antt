@@ -1,7 +1,7 @@
 -- `versions_forecast::count_before_log` meets its contract: one more where the unfreeze is of the same group. Assumes nothing.
 use borrow.Author.Rules.{rules}
 use mathlib.Core.Path.{ap, sym, ◌∙◌}
-use mathlib.Core.Option.{Option}
+use Rattle.std.specs.Prelude.{Option}
 use Prim.Native.Nat.{ℕ}
 use Rattle.lockpage.specs.Geometry.{present}
 use Rattle.addressing.specs.Map.{group_of}

@@ -3,7 +3,7 @@
 use borrow.Author.Rules.{rules}
 use mathlib.Core.Path.{ap, sym, ◌∙◌}
 use mathlib.Core.List.{List, [], ◌∷◌}
-use mathlib.Core.Option.{some}
+use Rattle.std.specs.Prelude.{Some}
 use Prim.Native.Nat.{ℕ, ◌<◌}
 use borrow.Author.Tests.{ltb-true}
 use Rattle.octets.specs.Part.{repeated}
@@ -72,7 +72,7 @@ entry-after-requires c κs =
       memory_size_is = (facts σ _ c.requires.valid.memory).size;
       group = has_group_of σ _ _ _ c.requires.valid.disk (below c.before);
       early = c.requires.early;
-      within = λ e. c.requires.within (named_some c.args.replaced (λ n. real (e ∙ n)) ∙ ap some (sym e));
+      within = λ e. c.requires.within (named_some c.args.replaced (λ n. real (e ∙ n)) ∙ ap Some (sym e));
     }
 
 asked : tie.Need-returns
