@@ -44,7 +44,7 @@ fn send(
         (command_of v.kind v.block v.time v.value content.now proof.now buffer)) }
 {
     let mut answer = [0u8; ANSWER_SIZE];
-    let number = controller::command(
+    let answered = controller::command(
         memory,
         disk,
         v.kind,
@@ -55,7 +55,8 @@ fn send(
         proof,
         &mut answer,
     );
-    if v.kind != ENTRY_KIND || number != machine::ACCEPTED {
+    let number = machine::number(answered);
+    if v.kind != ENTRY_KIND || answered.is_err() {
         return Shown {
             number,
             state: 0,
@@ -81,7 +82,7 @@ fn get_page(
         × (page.new ≡ (page_got (box_at memory.old disk.old)).answer) }
 {
     let time = memory::last_time(memory);
-    controller::command(memory, disk, PAGE_KIND, 0, time, 0, b"", b"", page);
+    let _ = controller::command(memory, disk, PAGE_KIND, 0, time, 0, b"", b"", page);
 }
 
 // Runs a line's command: a write's data and a new salt are of value mod 256, and kinds 4 to 6 bring the page that it gets first.
