@@ -17,7 +17,7 @@ fn store_shown(answer: &mut [u8], i: usize, e: Entry, time: u32)
     ensures { answer.new ≡ replaced answer.old (shown_size * i) (shown_state time e) }
 {
     let at = block_list::SHOWN_SIZE * i;
-    octets::store_u8(answer, at, states::state_number(states::state(e, time)));
+    octets::store_u8(answer, at, u8::from(states::state(e, time)));
     states::store_time_left(answer, at + block_list::STATE_SIZE, e, time);
 }
 

@@ -6,7 +6,7 @@ use Rattle.block_states.proofs.fill.store_shown.Tie as tie
 
 returns : tie.Need-returns
 returns c =
-    shown_stored _ _ _ _ _ _ _ _ c.requires c.state.ensures c.state_number.ensures c.store_u8.ensures
+    shown_stored _ _ _ _ _ _ _ _ c.requires c.state.ensures c.from.ensures c.store_u8.ensures
     c.store_time_left.ensures
 
 pub store_shown_spec : {M : Type 1} → statement M
