@@ -19,7 +19,7 @@ pub fn begin(memory: &mut [u8; MEMORY_SIZE], disk: &mut [u8; GROUP_SIZE]) -> Rea
     ensures { (result ≡ begun) × (box_at memory.new disk.new ≡ script_box (box_at memory.old disk.old)) }
 {
     let salt = [0u8; SALT_SIZE];
-    formatter::format(memory, disk, 1, &salt);
+    let _ = formatter::format(memory, disk, 1, &salt);
     Reader {
         number: 1,
         stage: Stage::Header(0),
