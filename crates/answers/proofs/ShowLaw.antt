@@ -10,7 +10,7 @@ use Rattle.octets.specs.Number.{bytes, with_number}
 use Rattle.octets.proofs.RepeatedLaw.{repeated_length}
 use Rattle.octets.proofs.PartLaw.{part_first}
 use Rattle.octets.proofs.NumberLaw.{bytes_length, with_number_byte}
-use Rattle.octets.proofs.ReplacedLaw.{replaced_all, all_copied, replaced_next}
+use Rattle.octets.proofs.ReplacedLaw.{replaced_all, lent_filled, replaced_next}
 use Rattle.lockpage.specs.Geometry.{Geometry, Proper}
 use Rattle.lockpage.specs.Size.{block_size, entry_size, page_size}
 use Rattle.lockpage.specs.declared.Entry.{Entry}
@@ -81,19 +81,19 @@ module _ {γ : Geometry} (σ : Proper γ) where
 
   -- the last time is set first
   module _ (m disk memory : List ℕ) (now : ℕ) (em : memory ≡ with_last_time γ m now) where
-    -- the block goes by a buffer, out
-    pub read_outcome : (answer out copied r : List ℕ) (a : ℕ) → length disk ≡ disk_size γ (groups γ m) → a < data_blocks γ (groups γ m)
-        → length answer ≡ answer_size γ → out ≡ block γ disk (physical γ a) → copied ≡ replaced answer 0 (part out 0 (block_size γ))
-        → r ≡ replaced copied (block_size γ) (repeated (answer_size γ - block_size γ) 0)
+    -- the block came back at the answer's front
+    pub read_outcome : (answer out r : List ℕ) (a : ℕ) → length disk ≡ disk_size γ (groups γ m) → a < data_blocks γ (groups γ m)
+        → length answer ≡ answer_size γ → out ≡ block γ disk (physical γ a)
+        → r ≡ replaced (out ++ drop (block_size γ) answer) (block_size γ) (repeated (answer_size γ - block_size γ) 0)
         → outcome_of 0 memory disk r ≡ accepted γ (λ s. read γ s a) (box_of m disk) now
     unfolding read timed
-    read_outcome answer out copied r a ld h la eo ec er =
+    read_outcome answer out r a ld h la eo er =
         let b = block γ disk (physical γ a) in
         let size : length b ≡ block_size γ =
         block_length σ disk (physical γ a) (block_within σ disk (groups γ m) (physical γ a) ld (physical_below σ (groups γ m) a h)) in
         shown m disk memory b r now em
-        (tail_zeroed σ answer copied b r (block_size γ) la (sym size) (omega arith)
-        (all_copied answer out copied 0 (block_size γ) (ap length eo ∙ size) ec ∙ ap (replaced answer 0) eo) er)
+        (tail_zeroed σ answer (out ++ drop (block_size γ) answer) b r (block_size γ) la (sym size) (omega arith)
+        (lent_filled answer b out 0 (block_size γ) size eo) er)
 
     pub entry_outcome : (r : List ℕ) (a : ℕ) (e : Entry) → e ≡ current_entry γ (box_of memory disk) a
         → r ≡ padded γ (entry_answer now e) → outcome_of 0 memory disk r ≡ accepted γ (λ s. show_entry γ s a now) (box_of m disk) now

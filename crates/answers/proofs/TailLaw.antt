@@ -5,8 +5,8 @@ use Prim.Native.Nat.{ℕ, ◌+◌, ◌-◌, ◌≤◌}
 use native.Mathlib.Nat.{zero-add}
 use native.Mathlib.Omega.{arith}
 use lib.ListN.{length, drop, length-append}
-use Rattle.octets.specs.Part.{part, replaced, repeated}
-use Rattle.octets.proofs.RepeatedLaw.{repeated_drop, repeated_length, repeated_part}
+use Rattle.octets.specs.Part.{replaced, repeated}
+use Rattle.octets.proofs.RepeatedLaw.{repeated_drop, repeated_length}
 use Rattle.octets.proofs.ReplacedLaw.{replaced_all, replaced_next}
 use Rattle.lockpage.specs.Geometry.{Geometry, Proper}
 use Rattle.machine.specs.Command.{answer_size}
@@ -42,9 +42,3 @@ module _ {γ : Geometry} (σ : Proper γ) where
       er
       ∙ replaced_all answer (repeated (answer_size γ) 0) (repeated_length (answer_size γ) 0 ∙ omega arith)
       ∙ ap (λ (n : ℕ). repeated n 0) whole
-
-  -- the zeros that are copied are those of an array as long as the answer
-  pub zeros_copied : (answer r : List ℕ) (from : ℕ) → from ≤ answer_size γ
-      → r ≡ replaced answer from (part (repeated (answer_size γ) 0) 0 (answer_size γ - from))
-      → r ≡ replaced answer from (repeated (answer_size γ - from) 0)
-  zeros_copied answer r from h er = er ∙ ap (replaced answer from) (repeated_part (answer_size γ) 0 0 (answer_size γ - from) (omega arith))

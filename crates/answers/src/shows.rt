@@ -15,16 +15,14 @@ use lockpage::{Entry, PAGE_SIZE, states};
 // The bytes of each number that an identify answers.
 const IDENTIFY_SIZE: usize = 4;
 
-// Kind 1: a block. It goes by a buffer: the compiler does not know that disk and answer are apart, and makes one move of the two copies.
+// Kind 1: a block.
 pub fn read(memory: &mut [u8], disk: &[u8], block: u32, time: u32, answer: &mut [u8])
     requires { BlockReady present (box_at memory.old disk.now) block answer.old }
     ensures { outcome_at 0 memory.new disk.now answer.new
         ≡ accepted present (λ s. E.read present s block) (box_at memory.old disk.now) time }
 {
     memory::set_last_time(memory, time);
-    let mut content = [0u8; addressing::BLOCK_SIZE];
-    disk::whole::read_block(disk, block, &mut content);
-    octets::copy(&content, 0, answer, 0, addressing::BLOCK_SIZE);
+    disk::whole::read_block(disk, block, &mut answer[0..addressing::BLOCK_SIZE]);
     tail::zero_tail(answer, addressing::BLOCK_SIZE);
 }
 
@@ -38,7 +36,7 @@ fn answer_entry(answer: &mut [u8], e: Entry, time: u32)
     lockpage::entries::store_entry(answer, 0, e);
     states::store_time_left(answer, lockpage::ENTRY_SIZE, e, time);
     let at = lockpage::ENTRY_SIZE + states::TIME_LEFT_SIZE;
-    octets::store_u8(answer, at, states::state_number(states::state(e, time)));
+    octets::store_u8(answer, at, u8::from(states::state(e, time)));
 }
 
 // Kind 2: a block's entry.

@@ -19,23 +19,18 @@ pub(crate) fn store_words(out: &mut [u8], at: usize, h: [u32; 8])
     requires { at + 32 ≤ length out.old }
     ensures { out.new ≡ replaced out.old at (B.bytes_of h) }
 {
-    let mut i: usize = 0;
-    while i < 8 {
-        store_u32(out, at + 4 * i, h[i]);
-        i += 1;
+    for (i, word) in h.iter().enumerate() {
+        store_u32(out, at + 4 * i, *word);
     }
 }
 
 // Of n bytes, how many go to the left.
+#[tactic(auto, using(crate::proofs::LeftLaw::left_of))]
 fn left_size(n: usize) -> usize
     requires { (B.chunk_size < n) × (n < 2 ^ 32) }
     ensures { (result ≡ B.left_size n) × (B.chunk_size ≤ result) × (result < n) }
 {
-    let mut l = CHUNK;
-    while l + l < n {
-        l += l;
-    }
-    l
+    1 << (n - 1).ilog2()
 }
 
 // The parent of two chaining values: their 64 bytes are its one block, the first and the last.

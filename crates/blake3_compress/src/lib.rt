@@ -11,6 +11,7 @@ pub const IV: [u32; 8] = [
     0x6A09E667, 0xBB67AE85, 0x3C6EF372, 0xA54FF53A, 0x510E527F, 0x9B05688C, 0x1F83D9AB, 0x5BE0CD19,
 ];
 
+#[tactic(auto, unfolding(crate::specs::Compress::permuted))]
 fn permute(m: [u32; 16]) -> [u32; 16]
     ensures { result ≡ C.permuted m }
 {
@@ -41,6 +42,7 @@ fn rounds(s: [[u32; 4]; 4], m: [u32; 16]) -> [[u32; 4]; 4]
 
 // The chaining value after a block: h is the one before it, m its message words, t the counter, b its length, d its
 // flags. The counter's upper word is 0: a u32 counts far more chunks than an input has.
+#[tactic(auto, using(crate::proofs::CompressLaw::compress_of), unfolding(crate::specs::Compress::output))]
 pub fn compress(h: [u32; 8], m: [u32; 16], t: u32, b: u32, d: u32) -> [u32; 8]
     ensures { result ≡ C.compress h m t b d }
 {

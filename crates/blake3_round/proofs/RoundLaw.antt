@@ -3,10 +3,6 @@ use Rattle.std.proofs.Common.{◌≡◌, ℕ, List, [], ◌∷◌}
 use Rattle.blake3_round.specs.Round as R
 use Rattle.blake3_round.specs.Round.{sums, turned, cell}
 
--- a row, word by word
-pub row_of : {a b c d a' b' c' d' : ℕ} → a ≡ a' → b ≡ b' → c ≡ c' → d ≡ d' → (a ∷ b ∷ c ∷ d ∷ []) ≡ (a' ∷ b' ∷ c' ∷ d' ∷ [])
-row_of pa pb pc pd = rw (pa, pb, pc, pd)
-
 -- the eight steps of the mixing function, on rows
 pub mixed_of : (a b c d x y t a1 d1 c1 b1 u a2 d2 c2 b2 : List ℕ)
     → t ≡ sums a b → a1 ≡ sums t x → d1 ≡ turned d a1 16 → c1 ≡ sums c d1 → b1 ≡ turned b c1 12

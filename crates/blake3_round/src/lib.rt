@@ -2,39 +2,33 @@
 // half-round are mixed side by side, a row at a time. The contracts cite specs/Round.antt.
 #![tactic(auto)]
 
-ghost use Rattle.std.specs.Prelude.{◌≡◌, ◌<◌};
+ghost use Rattle.std.specs.Prelude.{◌≡◌, ◌<◌, bit_xor};
 ghost use Rattle.blake3_round.specs.Round as R;
 
-use std::num::wrapping_add_u32;
+use std::array;
 
-fn rotr(x: u32, n: u32) -> u32
-    requires { (0 < n) × (n < 32) }
-    ensures { result ≡ R.rotr x n }
-{
-    (x >> n) | (x << (32 - n))
-}
-
+#[tactic(auto, unfolding(crate::specs::Round::sums))]
 fn sum(x: [u32; 4], y: [u32; 4]) -> [u32; 4]
     ensures { result ≡ R.sums x y }
 {
-    [
-        wrapping_add_u32(x[0], y[0]),
-        wrapping_add_u32(x[1], y[1]),
-        wrapping_add_u32(x[2], y[2]),
-        wrapping_add_u32(x[3], y[3]),
-    ]
+    array::from_fn(|i| x[i].wrapping_add(y[i]))
 }
 
+// A word against another, rotated right.
+#[tactic(auto, using(crate::proofs::WordLaw::turned_word))]
+fn turn_word(x: u32, y: u32, n: u32) -> u32
+    requires { (0 < n) × (n < 32) }
+    ensures { result ≡ R.rotr (bit_xor x y) n }
+{
+    (x ^ y).rotate_right(n)
+}
+
+#[tactic(auto, unfolding(crate::specs::Round::turned))]
 fn turn(x: [u32; 4], y: [u32; 4], n: u32) -> [u32; 4]
     requires { (0 < n) × (n < 32) }
     ensures { result ≡ R.turned x y n }
 {
-    [
-        rotr(x[0] ^ y[0], n),
-        rotr(x[1] ^ y[1], n),
-        rotr(x[2] ^ y[2], n),
-        rotr(x[3] ^ y[3], n),
-    ]
+    array::from_fn(|i| turn_word(x[i], y[i], n))
 }
 
 // The mixing function on the four columns at once.
@@ -57,6 +51,7 @@ fn mix(s: [[u32; 4]; 4], x: [u32; 4], y: [u32; 4]) -> [[u32; 4]; 4]
 }
 
 // The columns mixed, with the first eight message words.
+#[tactic(auto, unfolding(crate::specs::Round::columns))]
 pub fn columns(s: [[u32; 4]; 4], m: [u32; 16]) -> [[u32; 4]; 4]
     ensures { result ≡ R.columns s m }
 {
@@ -64,6 +59,7 @@ pub fn columns(s: [[u32; 4]; 4], m: [u32; 16]) -> [[u32; 4]; 4]
 }
 
 // The diagonals mixed, with the last eight: row i turned left by i places has them as its columns.
+#[tactic(auto, using(crate::proofs::RoundLaw::diagonals_of))]
 pub fn diagonals(s: [[u32; 4]; 4], m: [u32; 16]) -> [[u32; 4]; 4]
     ensures { result ≡ R.diagonals s m }
 {

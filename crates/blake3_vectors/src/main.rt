@@ -6,38 +6,31 @@
 use sockjade::sockjade_digest;
 use std::io::Result;
 
-const COUNT: usize = 35;
-
 const LENGTHS: [usize; 35] = [
     0, 1, 2, 3, 4, 5, 6, 7, 8, 63, 64, 65, 127, 128, 129, 1023, 1024, 1025, 2048, 2049, 3072, 3073,
     4096, 4097, 5120, 5121, 6144, 6145, 7168, 7169, 8192, 8193, 16384, 31744, 65536,
 ];
 
 fn fill(input: &mut [u8]) {
-    let mut i = 0;
-    while i < input.len() {
-        input[i] = (i % 251) as u8;
-        i += 1;
+    for (i, byte) in input.iter_mut().enumerate() {
+        *byte = (i % 251) as u8;
     }
 }
 
 fn print_bytes(rt: &impl Print, bytes: &[u8]) -> Result<()> {
-    let mut i = 0;
-    while i < bytes.len() {
-        print!(rt; "{:02x}", bytes[i])?;
-        i += 1;
+    for byte in bytes {
+        print!(rt; "{byte:02x}")?;
     }
     Ok(())
 }
 
 // A length that the input does not have, or a refusal, prints another line than the digest's.
 fn print_vector(rt: &impl Print, input: &[u8], n: usize) -> Result<()> {
-    if input.len() < n {
+    let Some(message) = input.get(..n) else {
         return println!(rt; "no such length");
-    }
+    };
     let mut out = [0u8; 32];
-    let answer = sockjade_digest(&input[..n], &mut out);
-    if answer != 0 {
+    if sockjade_digest(message, &mut out) != 0 {
         return println!(rt; "refused");
     }
     print!(rt; "{n} ")?;
@@ -48,10 +41,8 @@ fn print_vector(rt: &impl Print, input: &[u8], n: usize) -> Result<()> {
 fn main(rt: HostRuntime) -> Result<()> {
     let mut input = io::large_buffer();
     fill(&mut input);
-    let mut i = 0;
-    while i < COUNT {
-        print_vector(&rt, &input, LENGTHS[i])?;
-        i += 1;
+    for n in LENGTHS {
+        print_vector(&rt, &input, n)?;
     }
     Ok(())
 }

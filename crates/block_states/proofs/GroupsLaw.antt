@@ -3,7 +3,8 @@ use mathlib.Core.Path.{◌≡◌, refl, ap, sym, ◌∙◌}
 use mathlib.Core.List.{List}
 use Prim.Native.Nat.{ℕ, ◌+◌, ◌*◌, ◌≤◌, ◌<◌}
 use native.Mathlib.Omega.{arith}
-use lib.ListN.{length, get_or}
+use lib.ListN.{length, get_or, take}
+use Rattle.std.proofs.lemmas.List.{get_or-take, length-take-le}
 use Rattle.lockpage.specs.Geometry.{Geometry, Proper}
 use Rattle.lockpage.specs.Size.{page_size}
 use Rattle.lockpage.specs.Page.{entry_at}
@@ -50,6 +51,20 @@ module _ {γ : Geometry} (σ : Proper γ) (s : Box) (blocks first next named : L
 
   valid : Valid γ s.memory
   valid = facts σ s.memory ready.filling.box.memory
+
+  named_long : length (take count named) ≡ count
+  named_long = length-take-le count named (omega (arith, count_few, ready.links.named_size))
+
+  pub named_end : count ≡ length (take count named)
+  named_end = sym named_long
+
+  -- a turn for each of those named
+  module _ (k : ℕ) (turn : k < length (take count named)) where
+    pub in_turn : k < count
+    in_turn = omega (arith, turn, named_long)
+
+    pub same_group : get_or (take count named) k 0 ≡ get_or named k 0
+    same_group = get_or-take count named k 0 in_turn
 
   -- group k of those named
   module _ (k : ℕ) (h : k < count) where
@@ -130,10 +145,10 @@ module _ {γ : Geometry} (σ : Proper γ) (s : Box) (blocks first next named : L
   filled_start now page l =
       record { counted = refl; shown = λ p h. absurd (omega arith); page_size_is = l; answer_size_is = ready.filling.answer_size_is }
 
-  pub filled_end : (now : ℕ) (page answer : List ℕ) (pages k : ℕ) → Filled γ s blocks named now page answer pages k → count ≤ k
-      → answer ≡ shown_states γ s now (numbers blocks)
+  pub filled_end : (now : ℕ) (page answer : List ℕ) (pages k : ℕ) → Filled γ s blocks named now page answer pages k
+      → length (take count named) ≤ k → answer ≡ shown_states γ s now (numbers blocks)
   filled_end now page answer pages k f h =
       shown_states_of σ s now (block_number blocks) (number_count blocks) answer f.answer_size_is
       (λ i l.
       let at = ready.links.all_named i (omega arith) (omega arith) in
-      f.shown at.0 (omega (arith, at.1.below)) i l (sym at.1.group))
+      f.shown at.0 (omega (arith, at.1.below, named_end)) i l (sym at.1.group))

@@ -10,6 +10,9 @@ use Rattle.addressing.specs.Map.{data_blocks, group_of}
 use Rattle.addressing.proofs.MapLaw.{group_of_below}
 use Rattle.memory.specs.Layout.{memory_size}
 use Rattle.memory.specs.Memory.{groups, with_last_time}
+use Rattle.machine.specs.declared.Refusal.{Refusal}
+use Rattle.machine.specs.Refusal.{refusal_number}
+use Rattle.machine.proofs.RefusalLaw.{some_number}
 use Rattle.machine.specs.Command.{Box, box_of}
 use Rattle.machine.specs.Step.{timed}
 use Rattle.machine.specs.Query.{Query, query_of, query_outcome_of, number_count, block_number, numbers, listed, distinct, shown_states, pages_read, query_refusal}
@@ -30,20 +33,22 @@ module _ {γ : Geometry} (σ : Proper γ) where
   pages_are blocks n e =
       e ∙ ap (λ (l : List ℕ). length (distinct l)) (sym (map_listed (block_number blocks) (group_of γ) 0 (number_count blocks)))
 
-  module _ (m disk blocks : List ℕ) (now : ℕ) (answer : List ℕ) (number : ℕ) where
+  module _ (m disk blocks : List ℕ) (now : ℕ) (answer : List ℕ) where
     abbrev box : Box
     box = box_of m disk
 
     abbrev query : Query
     query = query_of blocks now answer
 
-    pub refused : number ≡ query_refusal γ box query → (number ≡ 0 → ⊥) → query_outcome_of number 0 box answer ≡ query_step γ box query
-    refused e n =
-        ap (λ (k : ℕ). query_outcome_of k 0 box answer) e ∙ sym (query_refused σ box query (λ z. n (e ∙ z)))
+    -- r refuses it
+    pub refused : (r : Refusal) → refusal_number r ≡ query_refusal γ box query
+        → query_outcome_of (refusal_number r) 0 box answer ≡ query_step γ box query
+    refused r e =
+        ap (λ (k : ℕ). query_outcome_of k 0 box answer) e ∙ sym (query_refused σ box query (λ z. some_number r (e ∙ z)))
 
-    module _ (e : number ≡ query_refusal γ box query) (z : number ≡ 0) where
+    module _ (accepts : 0 ≡ query_refusal γ box query) where
       none : query_refusal γ box query ≡ 0
-      none = sym e ∙ z
+      none = sym accepts
 
       pub size : length m ≡ memory_size γ
       size = (query_passed σ box query none).timely.memory.size
@@ -76,11 +81,10 @@ module _ {γ : Geometry} (σ : Proper γ) where
             }
 
         pub accepted : (pages : ℕ) (r : List ℕ) → pages ≡ pages_read γ (numbers blocks) → r ≡ shown_states γ (box_of memory disk) now (numbers blocks)
-            → query_outcome_of number pages (box_of memory disk) r ≡ query_step γ box query
+            → query_outcome_of 0 pages (box_of memory disk) r ≡ query_step γ box query
         unfolding query_accepted
         accepted pages r ep er =
-            ap (λ (k : ℕ). query_outcome_of k pages (box_of memory disk) r) z
-            ∙ ap (λ (k : ℕ). query_outcome_of 0 k (box_of memory disk) r) ep
+            ap (λ (k : ℕ). query_outcome_of 0 k (box_of memory disk) r) ep
             ∙ ap (λ (l : List ℕ). query_outcome_of 0 (pages_read γ (numbers blocks)) (box_of memory disk) l) er
             ∙ ap (λ (t : Box). query_outcome_of 0 (pages_read γ (numbers blocks)) t (shown_states γ t now (numbers blocks))) same
             ∙ sym (query_accepted_lem σ box query none)

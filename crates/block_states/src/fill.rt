@@ -12,12 +12,13 @@ use lockpage::{Entry, PAGE_SIZE, states};
 use memory::layout;
 
 // Stores what number i shows: the state and the time left that its entry says.
+#[tactic(auto, using(crate::proofs::FillLaw::shown_stored))]
 fn store_shown(answer: &mut [u8], i: usize, e: Entry, time: u32)
     requires { shown_size * i + shown_size ≤ length answer.old }
     ensures { answer.new ≡ replaced answer.old (shown_size * i) (shown_state time e) }
 {
     let at = block_list::SHOWN_SIZE * i;
-    octets::store_u8(answer, at, states::state_number(states::state(e, time)));
+    octets::store_u8(answer, at, u8::from(states::state(e, time)));
     states::store_time_left(answer, at + block_list::STATE_SIZE, e, time);
 }
 
@@ -53,9 +54,7 @@ fn answer_groups(
 {
     let mut page = [0u8; PAGE_SIZE];
     let mut pages = 0;
-    let mut k = 0;
-    while k < groups {
-        let group = named[k];
+    for &group in &named[..groups] {
         pages += current_page::fetch(memory, disk, group as u32, &mut page);
         answer_group(
             &page,
@@ -65,7 +64,6 @@ fn answer_groups(
             time,
             answer,
         );
-        k += 1;
     }
     pages
 }

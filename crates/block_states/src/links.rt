@@ -14,9 +14,7 @@ pub(crate) fn link(blocks: &[u8], first: &mut [u16], next: &mut [u8], named: &mu
         first.new next.new named.new result }
 {
     let mut groups = 0;
-    let mut i = block_list::count(blocks);
-    while i > 0 {
-        i -= 1;
+    for i in (0..block_list::count(blocks)).rev() {
         let group = addressing::group_of(block_list::number(blocks, i)) as usize;
         if first[group] as usize == MOST_NUMBERS {
             named[groups] = group as u8;

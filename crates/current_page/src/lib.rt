@@ -19,7 +19,7 @@ pub fn fetch(memory: &[u8], disk: &[u8], group: u32, out: &mut [u8]) -> u32
     requires { CurrentReady present (box_at memory.now disk.now) group out.old }
     ensures { (result ≡ 1) × (out.new ≡ current_page present (box_at memory.now disk.now) group) }
 {
-    if memory::held(memory) == group {
+    if memory::is_held(memory, group) {
         held_page::copy_page(memory, out);
         return 1;
     }
@@ -34,8 +34,8 @@ pub fn entry(memory: &[u8], disk: &[u8], block: u32) -> Entry
 {
     let group = addressing::group_of(block);
     let place = addressing::place_of(block);
-    let held = memory::held(memory);
-    if held == group {
+    let held = memory::is_held(memory, group);
+    if held {
         return held_page::load_entry(memory, place);
     }
     disk::whole::load_entry(disk, group, place)

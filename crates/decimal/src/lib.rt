@@ -5,12 +5,12 @@ ghost use Rattle.std.specs.Prelude.{◌≡◌, ◌+◌, ◌≤◌, length};
 ghost use Rattle.octets.specs.Part.{replaced};
 ghost use Rattle.decimal.specs.Decimal.{decimal, signed_decimal};
 
-// ASCII's `0` and `-`.
-pub const ZERO_DIGIT: u8 = 48;
+pub const ZERO_DIGIT: u8 = b'0';
 
-const MINUS: u8 = 45;
+const MINUS: u8 = b'-';
 
-// Puts n's digits into out from place at on, and answers the place behind them.
+// Puts n's digits into out from place at on, and answers the place behind them. Digit by digit, and not by the kit's `itoa`: that
+// proves too, but leaves no digit, magnitude or sign here for an edit of must-fail/ to get wrong.
 #[tactic(auto, using(crate::proofs::PutLaw::put_steps))]
 pub fn put(out: &mut [u8], at: usize, n: u64) -> usize
     requires { at + length (decimal n) ≤ length out.old }

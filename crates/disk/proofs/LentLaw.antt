@@ -4,10 +4,9 @@ use mathlib.Core.Path.{◌≡◌, ap, ap₂, sym, subst, ◌∙◌}
 use mathlib.Core.List.{List, ◌++◌}
 use Prim.Native.Nat.{ℕ, ◌+◌, ◌*◌, ◌-◌, ◌≤◌, ◌<◌}
 use native.Mathlib.Omega.{arith}
-use lib.ListN.{length, take, drop, length-drop}
-use lib.Seq.{length-take-le}
+use lib.ListN.{length, take, drop}
 use Rattle.octets.specs.Part.{part, replaced}
-use Rattle.octets.proofs.ReplacedLaw.{replaced_all, replaced_lent, part_copied, all_copied}
+use Rattle.octets.proofs.ReplacedLaw.{replaced_lent}
 use Rattle.lockpage.specs.Geometry.{Geometry, Proper}
 use Rattle.lockpage.specs.Size.{block_size}
 use Rattle.lockpage.specs.declared.Entry.{Entry}
@@ -15,7 +14,7 @@ use Rattle.lockpage.specs.Page.{entry_at}
 use Rattle.addressing.specs.Map.{group_blocks, group_size, group_start, block_start}
 use Rattle.disk.specs.Disk.{block, with_block, extent, with_extent, HasGroup}
 use Rattle.addressing.proofs.MapLaw.{block_start_place}
-use Rattle.disk.proofs.DiskLaw.{with_block_length, extent_length, block_in_extent, stored_in_extent}
+use Rattle.disk.proofs.DiskLaw.{with_block_length, block_length, extent_length, block_in_extent, stored_in_extent}
 
 -- the end of a part less its start
 span : (from n : ℕ) → from + n - from ≡ n
@@ -27,35 +26,14 @@ entry_cut p q i r e h = h ∙ ap (λ (x : List ℕ). entry_at x i) e
 
 -- γ is any proper geometry
 module _ {γ : Geometry} (σ : Proper γ) where
-  -- a block copied into a buffer of its size
-  pub block_copied : (l buffer r : List ℕ) (p from : ℕ) → length buffer ≡ block_size γ → block_start γ p + block_size γ ≤ length l
-      → from ≡ block_start γ p → r ≡ replaced buffer 0 (part l from (block_size γ)) → r ≡ block γ l p
-  unfolding block
-  block_copied l buffer r p from s h ef er =
-      part_copied l buffer r (block_start γ p) (block_size γ) s h (er ∙ ap (λ (at : ℕ). replaced buffer 0 (part l at (block_size γ))) ef)
+  -- the length of a block at a place of an extent
+  pub place_length : (group : List ℕ) (place : ℕ) → length group ≡ group_size γ → place < group_blocks γ → length (block γ group place) ≡ block_size γ
+  place_length group place l h = block_length σ group place (omega (arith, l, block_start_place σ place h))
 
   -- a block's part, cut out
   pub block_cut : (l : List ℕ) (p from : ℕ) → from ≡ block_start γ p → take (from + block_size γ - from) (drop from l) ≡ block γ l p
   unfolding block part
   block_cut l p from ef = ap₂ (λ (k at : ℕ). take k (drop at l)) (span from (block_size γ)) ef
-
-  -- a block whose part was lent and came back as r
-  pub block_lent : (l r : List ℕ) (p from : ℕ) → length r ≡ block_size γ → from ≡ block_start γ p
-      → take from l ++ (r ++ drop (from + block_size γ - from) (drop from l)) ≡ with_block γ l p r
-  unfolding with_block
-  block_lent l r p from s ef =
-      replaced_lent l from (from + block_size γ - from) r (s ∙ sym (span from (block_size γ))) ∙ ap (λ (at : ℕ). replaced l at r) ef
-
-  -- and as all of new, copied into it
-  pub block_filled : (l new r : List ℕ) (p from : ℕ) → length new ≡ block_size γ → from + block_size γ ≤ length l → from ≡ block_start γ p
-      → r ≡ replaced (take (from + block_size γ - from) (drop from l)) 0 (part new 0 (block_size γ))
-      → take from l ++ (r ++ drop (from + block_size γ - from) (drop from l)) ≡ with_block γ l p new
-  block_filled l new r p from s h ef er =
-      let lent : List ℕ = take (from + block_size γ - from) (drop from l) in
-      let lent-size : length lent ≡ block_size γ =
-      length-take-le (from + block_size γ - from) (drop from l) (omega (arith, length-drop from l)) ∙ span from (block_size γ) in
-      let filled : r ≡ new = all_copied lent new r 0 (block_size γ) s er ∙ replaced_all lent new (s ∙ sym lent-size) in
-      block_lent l r p from (ap length filled ∙ s) ef ∙ ap (with_block γ l p) filled
 
   -- an extent's end, an extent cut out, and one lent and come back
   pub extent_end : (disk : List ℕ) (g from : ℕ) → HasGroup γ disk g → from ≡ group_start γ g → from + group_size γ ≤ length disk

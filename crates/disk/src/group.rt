@@ -19,22 +19,21 @@ pub fn lend_block(group: &[u8], place: usize) -> &[u8]
 }
 
 // Copies the block at a place into out.
+#[tactic(auto, using(lockpage::proofs::GeometryLaw::present_proper, crate::proofs::LentLaw::place_length))]
 pub fn read_block(group: &[u8], place: usize, out: &mut [u8])
     requires { PlaceReady present group.now place out.old }
     ensures { out.new ≡ block present group.now place }
 {
-    let from = addressing::block_start(place);
-    octets::copy(group, from, out, 0, addressing::BLOCK_SIZE);
+    out.copy_from_slice(lend_block(group, place));
 }
 
-// Stores the block at a place: its part of the extent is lent on to be written.
+// Stores the block at a place.
+#[tactic(auto, using(lockpage::proofs::GeometryLaw::present_proper, addressing::proofs::MapLaw::block_start_place), unfolding(crate::specs::Disk::with_block))]
 pub fn store_block(group: &mut [u8], place: usize, content: &[u8])
     requires { PlaceReady present group.old place content.now }
     ensures { group.new ≡ with_block present group.old place content.now }
 {
-    let from = addressing::block_start(place);
-    let to = from + addressing::BLOCK_SIZE;
-    octets::copy(content, 0, &mut group[from..to], 0, addressing::BLOCK_SIZE);
+    octets::store_bytes(group, addressing::block_start(place), content);
 }
 
 // Entry i of the page.

@@ -1,2 +1,1 @@
--- The laws that the proofs here cite.
-mod PageLaw
+-- No laws of its own: the functions' proofs cite those of the crates below.

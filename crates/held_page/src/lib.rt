@@ -13,12 +13,22 @@ ghost use Rattle.memory.specs.Ready.{HasPage};
 use lockpage::Entry;
 use memory::layout;
 
+// The held page, to be read where it lies.
+#[tactic(auto, unfolding(memory::specs::Memory::held_page, octets::specs::Part::part))]
+fn lend_page(memory: &[u8]) -> &[u8]
+    requires { length memory.now ≡ memory_size present }
+    ensures { (result.now ≡ held_page present memory.now) × (length result.now ≡ page_size present) }
+{
+    let end = layout::PAGE_START + lockpage::PAGE_SIZE;
+    &memory[layout::PAGE_START..end]
+}
+
 // Copies the held page into out.
 pub fn copy_page(memory: &[u8], out: &mut [u8])
     requires { (length memory.now ≡ memory_size present) × (length out.old ≡ page_size present) }
     ensures { out.new ≡ held_page present memory.now }
 {
-    octets::copy(memory, layout::PAGE_START, out, 0, lockpage::PAGE_SIZE);
+    out.copy_from_slice(lend_page(memory));
 }
 
 // Entry i of the held page.
@@ -26,11 +36,11 @@ pub fn load_entry(memory: &[u8], i: usize) -> Entry
     requires { (length memory.now ≡ memory_size present) × (i < present.entries) }
     ensures { result ≡ entry_at (held_page present memory.now) i }
 {
-    let end = layout::PAGE_START + lockpage::PAGE_SIZE;
-    lockpage::entries::load_entry(&memory[layout::PAGE_START..end], i)
+    lockpage::entries::load_entry(lend_page(memory), i)
 }
 
 // Whether the held page is 512 zero bytes.
+#[tactic(auto, unfolding(memory::specs::Memory::held_page))]
 pub fn is_zero(memory: &[u8]) -> bool
     requires { length memory.now ≡ memory_size present }
     ensures { result ≡ equal (held_page present memory.now) (repeated (page_size present) 0) }
@@ -39,31 +49,23 @@ pub fn is_zero(memory: &[u8]) -> bool
 }
 
 // Holds a group's page, which has had that many updates.
+#[tactic(auto, unfolding(memory::specs::Memory::holding, memory::specs::Memory::with_held, memory::specs::Memory::with_update_count, memory::specs::Memory::with_held_page))]
 pub fn hold(memory: &mut [u8], group: u32, updates: u32, page: &[u8])
     requires { HasPage present memory.old group page.now × (updates ≤ most_updates) }
     ensures { memory.new ≡ holding present memory.old group updates page.now }
 {
     octets::store_u8(memory, layout::HELD_START, group as u8);
     octets::store_u8(memory, layout::UPDATE_COUNT_START, updates as u8);
-    octets::copy(page, 0, memory, layout::PAGE_START, lockpage::PAGE_SIZE);
-}
-
-// Makes a page 512 zero bytes.
-fn zero_page(page: &mut [u8])
-    requires { length page.old ≡ page_size present }
-    ensures { page.new ≡ repeated (page_size present) 0 }
-{
-    let blank = [0u8; lockpage::PAGE_SIZE];
-    octets::copy(&blank, 0, page, 0, lockpage::PAGE_SIZE);
+    octets::store_bytes(memory, layout::PAGE_START, page);
 }
 
 // Holds no page.
+#[tactic(auto, unfolding(memory::specs::Memory::holding_none, memory::specs::Memory::holding, memory::specs::Memory::with_held, memory::specs::Memory::with_update_count, memory::specs::Memory::with_held_page))]
 pub fn hold_none(memory: &mut [u8])
     requires { length memory.old ≡ memory_size present }
     ensures { memory.new ≡ holding_none present memory.old }
 {
     octets::store_u8(memory, layout::HELD_START, layout::NONE);
     octets::store_u8(memory, layout::UPDATE_COUNT_START, 0);
-    let end = layout::PAGE_START + lockpage::PAGE_SIZE;
-    zero_page(&mut memory[layout::PAGE_START..end]);
+    octets::fill(memory, layout::PAGE_START, lockpage::PAGE_SIZE, 0);
 }

@@ -14,10 +14,7 @@ pub fn load_entry(page: &[u8], i: usize) -> Entry
     let at = crate::ENTRY_SIZE * i;
     let word = octets::load_u32(page, at);
     let stamp = octets::load_u32(page, at + crate::WORD_SIZE);
-    Entry {
-        word: word,
-        stamp: stamp,
-    }
+    Entry { word, stamp }
 }
 
 // Stores entry i.
@@ -35,10 +32,7 @@ pub fn store_blank(page: &mut [u8])
     requires { length page.old ≡ page_size present }
     ensures { page.new ≡ blank_page present }
 {
-    let mut i = 0;
-    while i < crate::ENTRIES_PER_PAGE {
-        let e = Entry { word: 0, stamp: 1 };
-        store_entry(page, i, e);
-        i += 1;
+    for i in 0..crate::ENTRIES_PER_PAGE {
+        store_entry(page, i, Entry { word: 0, stamp: 1 });
     }
 }

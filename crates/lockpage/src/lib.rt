@@ -18,14 +18,14 @@ pub const ENTRIES_PER_PAGE: usize = 1 << INDEX_BITS;
 pub const PAGE_SIZE: usize = ENTRY_SIZE * ENTRIES_PER_PAGE;
 
 // An entry: "a 4-byte word, then a 4-byte stamp".
-#[derive(Clone, Copy)]
+#[derive(Clone, Copy, Debug, PartialEq, Eq)]
 pub struct Entry {
     pub word: u32,
     pub stamp: u32,
 }
 
 // A block's state.
-#[derive(Clone, Copy)]
+#[derive(Clone, Copy, Debug, PartialEq, Eq)]
 pub enum State {
     Free,
     Frozen,
@@ -33,7 +33,7 @@ pub enum State {
 }
 
 // What changes an entry: kind 4 with its lock, kind 5, kind 6 with its value.
-#[derive(Clone, Copy)]
+#[derive(Clone, Copy, Debug, PartialEq, Eq)]
 pub enum Update {
     Write(u32),
     Unfreeze,

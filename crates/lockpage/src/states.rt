@@ -30,14 +30,16 @@ pub fn state(e: Entry, time: u32) -> State
 }
 
 // The state's number in an answer.
-#[tactic(auto, unfolding(crate::specs::State::state_number))]
-pub fn state_number(s: State) -> u8
-    ensures { result ≡ state_number s }
-{
-    match s {
-        State::Free => 0,
-        State::Frozen => 1,
-        State::Counting => 2,
+impl From<State> for u8 {
+    ghost from_gives = { λ s n. n ≡ state_number s };
+
+    #[tactic(auto, unfolding(crate::specs::State::state_number))]
+    fn from(s: State) -> u8 {
+        match s {
+            State::Free => 0,
+            State::Frozen => 1,
+            State::Counting => 2,
+        }
     }
 }
 

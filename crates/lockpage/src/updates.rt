@@ -17,21 +17,9 @@ pub fn allowed(u: Update, s: State) -> bool
     ensures { result ≡ U.allowed u s }
 {
     match u {
-        Update::Write(_) => match s {
-            State::Free => true,
-            State::Frozen => false,
-            State::Counting => false,
-        },
-        Update::Unfreeze => match s {
-            State::Free => false,
-            State::Frozen => true,
-            State::Counting => false,
-        },
-        Update::Increment(_) => match s {
-            State::Free => false,
-            State::Frozen => true,
-            State::Counting => true,
-        },
+        Update::Write(_) => s == State::Free,
+        Update::Unfreeze => s == State::Frozen,
+        Update::Increment(_) => s != State::Free,
     }
 }
 
@@ -93,6 +81,6 @@ pub fn updated(u: Update, time: u32, e: Entry) -> Entry
     let stamp = new_stamp(u, time, e);
     Entry {
         word: word as u32,
-        stamp: stamp,
+        stamp,
     }
 }

@@ -1,6 +1,6 @@
 -- The fields of the controller memory, each read and each replaced. Everything else goes through these names.
 -- Assumes nothing: these are definitions.
-use Rattle.std.specs.Prelude.{ℕ, ◌-◌, List}
+use Rattle.std.specs.Prelude.{ℕ, ◌-◌, true, false, eqb, Option, None, Some, List}
 use Rattle.octets.specs.Part.{part, replaced, repeated}
 use Rattle.octets.specs.Number.{number_at, with_number}
 use Rattle.lockpage.specs.Geometry.{Geometry}
@@ -26,6 +26,10 @@ with_count m g n = with_number m (count_start g) count_size n
 -- "held group or 255"
 abbrev pub none : ℕ
 none = 255
+
+-- the group that a byte of the memory names as held: "held group or 255", where 255 is no group
+unfoldable pub group_held : ℕ → Option ℕ
+group_held n = elim (eqb n none) [ true ↦ None | false ↦ Some n ]
 
 -- document 02, Q-4: "counts updates to the held page, 1 to 63"
 abbrev pub most_updates : ℕ

@@ -2,44 +2,58 @@
 // contracts cite specs/.
 #![tactic(auto)]
 
-ghost use Rattle.std.specs.Prelude.{◌≡◌, length};
+ghost use Rattle.std.specs.Prelude.{◌≡◌, eqb, length};
 ghost use Rattle.octets.specs.Part.{equal};
 ghost use Rattle.lockpage.specs.Geometry.{present};
 ghost use Rattle.memory.specs.Layout.{memory_size, salt_size};
-ghost use Rattle.memory.specs.Memory.{last_time, update_count, with_salt, with_count, with_no_counts, with_last_time, formatted_memory};
+ghost use Rattle.memory.specs.Memory.{last_time, update_count, with_salt, with_count, with_no_counts, with_last_time, formatted_memory, group_held};
 ghost use Rattle.memory.specs.Memory as M;
 ghost use Rattle.memory.specs.Ready.{HasCount, FormatReady};
 
 pub mod layout;
 
 // The number of groups.
+#[tactic(auto, unfolding(crate::specs::Memory::groups))]
 pub fn groups(memory: &[u8]) -> u32
     requires { length memory.now ≡ memory_size present }
     ensures { result ≡ M.groups present memory.now }
 {
-    let byte = octets::load_u8(memory, layout::GROUPS_START);
-    byte as u32
+    u32::from(octets::load_u8(memory, layout::GROUPS_START))
 }
 
-// The held group, or NONE.
-pub fn held(memory: &[u8]) -> u32
+// The held group, if any.
+#[tactic(auto, unfolding(crate::specs::Memory::held, crate::specs::Memory::group_held))]
+pub fn held(memory: &[u8]) -> Option<u32>
     requires { length memory.now ≡ memory_size present }
-    ensures { result ≡ M.held present memory.now }
+    ensures { result ≡ group_held (M.held present memory.now) }
 {
-    let byte = octets::load_u8(memory, layout::HELD_START);
-    byte as u32
+    let group = octets::load_u8(memory, layout::HELD_START);
+    if group == layout::NONE {
+        return None;
+    }
+    Some(u32::from(group))
+}
+
+// Whether a group is named as the held one.
+#[tactic(auto, unfolding(crate::specs::Memory::held))]
+pub fn is_held(memory: &[u8], group: u32) -> bool
+    requires { length memory.now ≡ memory_size present }
+    ensures { result ≡ eqb (M.held present memory.now) group }
+{
+    u32::from(octets::load_u8(memory, layout::HELD_START)) == group
 }
 
 // How many updates the held page has had.
+#[tactic(auto, unfolding(crate::specs::Memory::update_count))]
 pub fn update_count(memory: &[u8]) -> u32
     requires { length memory.now ≡ memory_size present }
     ensures { result ≡ update_count present memory.now }
 {
-    let byte = octets::load_u8(memory, layout::UPDATE_COUNT_START);
-    byte as u32
+    u32::from(octets::load_u8(memory, layout::UPDATE_COUNT_START))
 }
 
 // The last time.
+#[tactic(auto, unfolding(crate::specs::Memory::last_time))]
 pub fn last_time(memory: &[u8]) -> u32
     requires { length memory.now ≡ memory_size present }
     ensures { result ≡ last_time present memory.now }
@@ -48,6 +62,7 @@ pub fn last_time(memory: &[u8]) -> u32
 }
 
 // Sets the last time.
+#[tactic(auto, unfolding(crate::specs::Memory::with_last_time))]
 pub fn set_last_time(memory: &mut [u8], time: u32)
     requires { length memory.old ≡ memory_size present }
     ensures { memory.new ≡ with_last_time present memory.old time }
@@ -56,6 +71,7 @@ pub fn set_last_time(memory: &mut [u8], time: u32)
 }
 
 // The freshness count of a group.
+#[tactic(auto, unfolding(crate::specs::Memory::count))]
 pub fn count(memory: &[u8], group: u32) -> u32
     requires { HasCount present memory.now group }
     ensures { result ≡ M.count memory.now group }
@@ -64,6 +80,7 @@ pub fn count(memory: &[u8], group: u32) -> u32
 }
 
 // Sets the freshness count of a group.
+#[tactic(auto, unfolding(crate::specs::Memory::with_count))]
 pub fn set_count(memory: &mut [u8], group: u32, n: u32)
     requires { HasCount present memory.old group }
     ensures { memory.new ≡ with_count memory.old group n }
@@ -72,6 +89,7 @@ pub fn set_count(memory: &mut [u8], group: u32, n: u32)
 }
 
 // Sets all counts to 0.
+#[tactic(auto, unfolding(crate::specs::Memory::with_no_counts))]
 pub fn clear_counts(memory: &mut [u8])
     requires { length memory.old ≡ memory_size present }
     ensures { memory.new ≡ with_no_counts present memory.old }
@@ -84,12 +102,21 @@ pub fn clear_counts(memory: &mut [u8])
     );
 }
 
+// The salt, to be read where it lies.
+#[tactic(auto, unfolding(crate::specs::Memory::salt, octets::specs::Part::part))]
+fn lend_salt(memory: &[u8]) -> &[u8]
+    requires { length memory.now ≡ memory_size present }
+    ensures { (result.now ≡ M.salt memory.now) × (length result.now ≡ salt_size) }
+{
+    &memory[layout::SALT_START..layout::SALT_START + layout::SALT_SIZE]
+}
+
 // Copies the salt into out.
 pub fn copy_salt(memory: &[u8], out: &mut [u8])
     requires { (length memory.now ≡ memory_size present) × (length out.old ≡ salt_size) }
     ensures { out.new ≡ M.salt memory.now }
 {
-    octets::copy(memory, layout::SALT_START, out, 0, layout::SALT_SIZE);
+    out.copy_from_slice(lend_salt(memory));
 }
 
 // Whether the salt is the one given.
@@ -97,18 +124,16 @@ pub fn has_salt(memory: &[u8], salt: &[u8]) -> bool
     requires { length memory.now ≡ memory_size present }
     ensures { result ≡ equal (M.salt memory.now) salt.now }
 {
-    let end = layout::SALT_START + layout::SALT_SIZE;
-    octets::equal(&memory[layout::SALT_START..end], salt)
+    octets::equal(lend_salt(memory), salt)
 }
 
-// Sets the salt. It goes by a buffer: the compiler does not know that salt and memory are apart, and would copy byte by byte.
+// Sets the salt.
+#[tactic(auto, unfolding(crate::specs::Memory::with_salt))]
 pub fn set_salt(memory: &mut [u8], salt: &[u8])
     requires { (length memory.old ≡ memory_size present) × (length salt.now ≡ salt_size) }
     ensures { memory.new ≡ with_salt memory.old salt.now }
 {
-    let mut bytes = [0u8; layout::SALT_SIZE];
-    octets::copy(salt, 0, &mut bytes, 0, layout::SALT_SIZE);
-    octets::copy(&bytes, 0, memory, layout::SALT_START, layout::SALT_SIZE);
+    octets::store_bytes(memory, layout::SALT_START, salt);
 }
 
 // Makes the memory that of a box just formatted.

@@ -12,8 +12,8 @@ use lib.Bits.{bit_or, bit_xor, or_add_and, xor_add_and, and_le_l, and_le_r, xor_
 use lib.ListN.{length, get_or}
 use lib.Seq.{ext_get_or}
 use Rattle.octets.specs.Part.{part, repeated, equal}
-use Rattle.octets.proofs.PartLaw.{part_length, part_at}
-use Rattle.octets.proofs.RepeatedLaw.{repeated_length, repeated_at}
+use Rattle.octets.proofs.PartLaw.{part_length}
+use Rattle.octets.proofs.RepeatedLaw.{repeated_length}
 
 pub equal_refl : (l : List ℕ) → equal l l ≡ true
 unfolding equal
@@ -76,13 +76,11 @@ compared_step a b i d c =
           ap₂ bit_or d0 (ap (λ (x : ℕ). bit_xor x (get_or b i 0)) here ∙ xor_self (get_or b i 0)) ∙ or_zero_l 0;
     }
 
--- the same, of a part with a byte repeated
-pub filled_step : (l : List ℕ) (at n b i d : ℕ) → i < n → Compared (part l at n) (repeated n b) i d
-    → Compared (part l at n) (repeated n b) (i + 1) (bit_or d (bit_xor (get_or l (at + i) 0) b))
-filled_step l at n b i d h c =
-    subst (λ (x : ℕ). Compared (part l at n) (repeated n b) (i + 1) (bit_or d x))
-    (ap₂ bit_xor (part_at l at n i h) (repeated_at n b i h))
-    (compared_step (part l at n) (repeated n b) i d c)
+-- the same, of bytes that are known to stand there
+pub compared_next : (a b : List ℕ) (i d x y : ℕ) → Compared a b i d → x ≡ get_or a i 0 → y ≡ get_or b i 0
+    → Compared a b (i + 1) (bit_or d (bit_xor x y))
+compared_next a b i d x y c ex ey =
+    subst (λ (z : ℕ). Compared a b (i + 1) (bit_or d z)) (sym (ap₂ bit_xor ex ey)) (compared_step a b i d c)
 
 -- at the end the test of d is the comparison
 pub compared_end : (a b : List ℕ) (i d : ℕ) → Compared a b i d → length a ≡ length b → length a ≤ i → eqb d 0 ≡ equal a b

@@ -69,3 +69,8 @@ part_first a b n e = take_at a b n e
 pub part_second : (a b : List ℕ) (at n : ℕ) → length a ≡ at → length b ≡ n → part (a ++ b) at n ≡ b
 unfolding part
 part_second a b at n e f = ap (take n) (drop_at a b at e) ∙ take_all n b (omega arith)
+
+-- a part as a range of a slice lends it
+pub part_lent : (l : List ℕ) (at k n : ℕ) → k ≡ n → take k (drop at l) ≡ part l at n
+unfolding part
+part_lent l at k n e = ap (λ (m : ℕ). take m (drop at l)) e

@@ -116,16 +116,22 @@ pub fn copy(src: &[u8], from: usize, dst: &mut [u8], at: usize, n: usize)
     }
 }
 
+// Stores the bytes from at on.
+#[tactic(auto, using(crate::proofs::ReplacedLaw::replaced_lent))]
+pub fn store_bytes(s: &mut [u8], at: usize, bytes: &[u8])
+    requires { at + length bytes.now ≤ length s.old }
+    ensures { s.new ≡ replaced s.old at bytes.now }
+{
+    s[at..at + bytes.len()].copy_from_slice(bytes);
+}
+
 // Stores b in the n bytes from at on.
+#[tactic(auto, using(crate::proofs::ReplacedLaw::replaced_lent), unfolding(crate::specs::Part::repeated))]
 pub fn fill(s: &mut [u8], at: usize, n: usize, b: u8)
     requires { at + n ≤ length s.old }
     ensures { s.new ≡ replaced s.old at (repeated n b) }
 {
-    let mut i = 0;
-    while i < n {
-        s[at + i] = b;
-        i += 1;
-    }
+    s[at..at + n].fill(b);
 }
 
 // Whether the n bytes from at on are all b. All of them are looked at, so that the loop has one way out.
@@ -133,11 +139,9 @@ pub fn filled(s: &[u8], at: usize, n: usize, b: u8) -> bool
     requires { at + n ≤ length s.now }
     ensures { result ≡ P.equal (part s.now at n) (repeated n b) }
 {
-    let mut differ: u8 = 0;
-    let mut i = 0;
-    while i < n {
-        differ = differ | (s[at + i] ^ b);
-        i += 1;
+    let mut differ = 0;
+    for x in &s[at..at + n] {
+        differ |= x ^ b;
     }
     differ == 0
 }
@@ -150,11 +154,9 @@ pub fn equal(a: &[u8], b: &[u8]) -> bool
     if a.len() != b.len() {
         return false;
     }
-    let mut differ: u8 = 0;
-    let mut i = 0;
-    while i < a.len() {
-        differ = differ | (a[i] ^ b[i]);
-        i += 1;
+    let mut differ = 0;
+    for (x, y) in a.iter().zip(b) {
+        differ |= x ^ y;
     }
     differ == 0
 }

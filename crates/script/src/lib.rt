@@ -2,7 +2,7 @@
 // whole. The caller keeps the reader and the box between the pieces, and reads and writes the descriptors.
 #![tactic(auto)]
 
-ghost use Rattle.std.specs.Prelude.{◌≡◌, ◌≤◌, length};
+ghost use Rattle.std.specs.Prelude.{◌≡◌, ◌≤◌, length, IfSome};
 ghost use Rattle.machine.specs.Call.{box_at};
 ghost use Rattle.script_printout.specs.Printout.{script_box};
 ghost use Rattle.script_printout.specs.Reader.{begun, fed_of};
@@ -13,19 +13,13 @@ use memory::layout::{MEMORY_SIZE, SALT_SIZE};
 use script_answers::printing::MOST_PRINTED;
 use script_printout::{Progress, Reader, Stage};
 
-// What a call did: whether it read at all, and its progress.
-#[derive(Clone, Copy)]
-pub struct Fed {
-    pub taken: bool,
-    pub progress: Progress,
-}
-
 // Formats the box of a script, one group with a zero salt, and answers the reader of its first byte.
+#[tactic(auto, unfolding(script_printout::specs::Printout::script_box, octets::specs::Part::repeated))]
 pub fn begin(memory: &mut [u8; MEMORY_SIZE], disk: &mut [u8; GROUP_SIZE]) -> Reader
     ensures { (result ≡ begun) × (box_at memory.new disk.new ≡ script_box (box_at memory.old disk.old)) }
 {
     let salt = [0u8; SALT_SIZE];
-    formatter::format(memory, disk, 1, &salt);
+    let _ = formatter::format(memory, disk, 1, &salt);
     Reader {
         number: 1,
         stage: Stage::Header(0),
@@ -34,63 +28,42 @@ pub fn begin(memory: &mut [u8; MEMORY_SIZE], disk: &mut [u8; GROUP_SIZE]) -> Rea
 
 // Reads the next piece of the script: what it prints is put at the start of out. Where out has not room for a line at each byte,
 // nothing is read.
+#[tactic(auto, using(script_printout::proofs::FeedLaw::feeding_none))]
 pub fn feed(
     reader: Reader,
     memory: &mut [u8; MEMORY_SIZE],
     disk: &mut [u8; GROUP_SIZE],
     piece: &[u8],
     out: &mut [u8],
-) -> Fed
-    ensures { (fed_of result.taken result.progress (box_at memory.new disk.new) out.new
+) -> Option<Progress>
+    ensures { (fed_of reader result (box_at memory.new disk.new) out.new
         ≡ R.fed reader (box_at memory.old disk.old) piece.now out.old)
-        × (result.progress.end ≤ length out.old) }
+        × IfSome result (λ p. p.end ≤ length out.old) }
 {
     if out.len() / MOST_PRINTED < piece.len() {
-        return Fed {
-            taken: false,
-            progress: Progress {
-                reader: reader,
-                end: 0,
-            },
-        };
+        return None;
     }
-    let mut p = Progress {
-        reader: reader,
-        end: 0,
-    };
-    let mut i = 0;
-    while i < piece.len() {
-        p = script_bytes::read_byte(p.reader, memory, disk, piece[i], out, p.end);
-        i += 1;
+    let mut progress = Progress { reader, end: 0 };
+    for &byte in piece {
+        progress = script_bytes::read_byte(progress.reader, memory, disk, byte, out, progress.end);
     }
-    Fed {
-        taken: true,
-        progress: p,
-    }
+    Some(progress)
 }
 
-// The end of the script: its last line, where that lacks its newline.
+// The end of the script: its last line, where that lacks its newline. Where out has not room for a line, nothing is read.
+#[tactic(auto, unfolding(script_printout::specs::Reader::finished, script_printout::specs::Reader::placed), using(octets::proofs::ReplacedLaw::replaced_none))]
 pub fn finish(
     reader: Reader,
     memory: &mut [u8; MEMORY_SIZE],
     disk: &mut [u8; GROUP_SIZE],
     out: &mut [u8],
-) -> Fed
-    ensures { (fed_of result.taken result.progress (box_at memory.new disk.new) out.new
+) -> Option<Progress>
+    ensures { (fed_of reader result (box_at memory.new disk.new) out.new
         ≡ R.finished reader (box_at memory.old disk.old) out.old)
-        × (result.progress.end ≤ length out.old) }
+        × IfSome result (λ p. p.end ≤ length out.old) }
 {
     if out.len() < MOST_PRINTED {
-        return Fed {
-            taken: false,
-            progress: Progress {
-                reader: reader,
-                end: 0,
-            },
-        };
+        return None;
     }
-    Fed {
-        taken: true,
-        progress: script_bytes::end_input(reader, memory, disk, out),
-    }
+    Some(script_bytes::end_input(reader, memory, disk, out))
 }

@@ -1,7 +1,7 @@
 -- A line's command as the code runs it: the answer's buffer and the data are runs of one byte, and what is shown is by the kind and the
 -- number answered. Assumes nothing.
 use mathlib.Core.Path.{◌≡◌, ap, ap₂, sym, ◌∙◌}
-use mathlib.Core.Bool.{Bool, true, false, ◌&&◌}
+use mathlib.Core.Bool.{Bool, true, false, ◌&&◌, false≢true, true≢false}
 use mathlib.Core.List.{List, []}
 use Prim.Native.Nat.{ℕ, ◌≤◌, ◌%◌}
 use native.Mathlib.Omega.{arith}
@@ -9,6 +9,7 @@ use borrow.Author.Tests.{eq-eqb, ne_eqb}
 use lib.Dec.{eqb}
 use lib.IntN.{ℤ, pos}
 use lib.ListN.{length, take, replicate}
+use Rattle.std.specs.Prelude.{Result, Ok, Err, is_err}
 use Rattle.octets.specs.Part.{part, repeated}
 use Rattle.octets.specs.Number.{number_at}
 use Rattle.octets.specs.Signed.{signed}
@@ -22,10 +23,13 @@ use Rattle.memory.specs.Memory.{last_time}
 use Rattle.machine.specs.declared.Kind.{Kind}
 use Rattle.machine.specs.declared.Kind.TheVariants.{Read, Entry, Page, Change, Sync, Restart, NewSalt, Identify, Unknown}
 use Rattle.machine.specs.Command.{Box, Outcome, Command, box_of, command_of, outcome_of, kind_numbered, answer_size}
+use Rattle.machine.specs.declared.Refusal.{Refusal}
+use Rattle.machine.specs.Refusal.{number_of}
 use Rattle.machine.specs.Question.{content_length, proof_length, refusal}
 use Rattle.machine.specs.Effect.{state_place}
 use Rattle.machine.specs.Step.{step}
 use Rattle.machine.proofs.CaseLaw.{same_or_not}
+use Rattle.machine.proofs.RefusalLaw.{some_number}
 use Rattle.machine.proofs.StepLaw.{refused_unaltered}
 use Rattle.machine.proofs.BytesLaw.{answer_length}
 use Rattle.script_lines.specs.declared.Values.{Values}
@@ -60,6 +64,19 @@ module _ (kind n : ℕ) (m disk a : List ℕ) (o : Outcome) (e : outcome_of n m 
       → left ≡ signed (number_at a entry_size time_left_size) → ran_of m disk (shown_of n state left) ≡ ran_with kind o
   sent_entry k z state left es el =
       sent _ (ap₂ (λ (x : ℕ) (y : ℤ). shown_of n x y) es el ∙ sym (shown_by true (ap₂ (λ (x y : Bool). x && y) (eq-eqb kind 2 k) (eq-eqb n 0 z))))
+
+-- by the number that is found of the command's answer
+pub numbered : (r : Result Unit Refusal) (n : ℕ) (m disk a : List ℕ) (o : Outcome) → outcome_of (number_of r) m disk a ≡ o → n ≡ number_of r
+    → outcome_of n m disk a ≡ o
+numbered r n m disk a o e en = ap (λ (x : ℕ). outcome_of x m disk a) en ∙ e
+
+pub refused_number : (r : Result Unit Refusal) (n : ℕ) → n ≡ number_of r → is_err r ≡ true → n ≡ 0 → ⊥
+refused_number (Ok u) n e t z = absurd (false≢true t)
+refused_number (Err r) n e t z = some_number r (sym e ∙ z)
+
+pub accepted_number : (r : Result Unit Refusal) (n : ℕ) → n ≡ number_of r → is_err r ≡ false → n ≡ 0
+accepted_number (Ok u) n e t = e
+accepted_number (Err r) n e t = absurd (true≢false t)
 
 -- ---- the page
 

@@ -24,7 +24,7 @@ const ENTRY_KIND: u32 = 2;
 const PAGE_KIND: u32 = 3;
 
 // What is printed of an answer: its number, and the state and time left of an entry.
-#[derive(Clone, Copy)]
+#[derive(Clone, Copy, Debug, PartialEq, Eq)]
 pub struct Shown {
     pub number: u32,
     pub state: u8,
@@ -44,7 +44,7 @@ fn send(
         (command_of v.kind v.block v.time v.value content.now proof.now buffer)) }
 {
     let mut answer = [0u8; ANSWER_SIZE];
-    let number = controller::command(
+    let answered = controller::command(
         memory,
         disk,
         v.kind,
@@ -55,30 +55,23 @@ fn send(
         proof,
         &mut answer,
     );
-    if v.kind != ENTRY_KIND {
+    let number = machine::number(answered);
+    if v.kind != ENTRY_KIND || answered.is_err() {
         return Shown {
-            number: number,
+            number,
             state: 0,
             left: 0,
         };
     }
-    if number != machine::ACCEPTED {
-        return Shown {
-            number: number,
-            state: 0,
-            left: 0,
-        };
-    }
-    let state = octets::load_u8(&answer, ENTRY_SIZE + TIME_LEFT_SIZE);
-    let left = octets::load_i64(&answer, ENTRY_SIZE);
     Shown {
-        number: number,
-        state: state,
-        left: left,
+        number,
+        state: octets::load_u8(&answer, ENTRY_SIZE + TIME_LEFT_SIZE),
+        left: octets::load_i64(&answer, ENTRY_SIZE),
     }
 }
 
 // Gets page 0, with its tag, by kind 3 at the last time.
+#[tactic(auto, unfolding(crate::specs::Answer::page_got))]
 fn get_page(
     memory: &mut [u8; MEMORY_SIZE],
     disk: &mut [u8; GROUP_SIZE],
@@ -89,7 +82,7 @@ fn get_page(
         × (page.new ≡ (page_got (box_at memory.old disk.old)).answer) }
 {
     let time = memory::last_time(memory);
-    controller::command(memory, disk, PAGE_KIND, 0, time, 0, b"", b"", page);
+    let _ = controller::command(memory, disk, PAGE_KIND, 0, time, 0, b"", b"", page);
 }
 
 // Runs a line's command: a write's data and a new salt are of value mod 256, and kinds 4 to 6 bring the page that it gets first.

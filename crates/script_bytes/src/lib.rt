@@ -13,61 +13,59 @@ ghost use Rattle.script_printout.specs.Reader.{OnEveryBox, placed_of, placed};
 use addressing::GROUP_SIZE;
 use memory::layout::MEMORY_SIZE;
 use script_answers::printing;
-use script_lines::{Judged, Line, NEWLINE, Next};
+use script_lines::{Line, NEWLINE};
 use script_printout::{Progress, Reader, Stage};
 
 // The number of the next line.
+#[tactic(auto, unfolding(script_printout::specs::Reader::next_number))]
 fn next_number(n: u64) -> u64
     ensures { result ≡ next_number n }
 {
-    if n == u64::MAX {
-        return n;
-    }
-    n + 1
+    n.saturating_add(1)
 }
 
 // The reader at the start of the line behind line number.
 fn reader_behind(number: u64) -> Reader
     ensures { result ≡ reader_behind number }
 {
-    let blank = script_lines::blank();
     Reader {
         number: next_number(number),
-        stage: Stage::Body(blank),
+        stage: Stage::Body(script_lines::blank()),
     }
 }
 
 // The line is not of the form: that is printed, and ends the run.
+#[tactic(auto, using(script_printout::proofs::TextLaw::bad_line_size), unfolding(script_printout::specs::Reader::stopped, script_printout::specs::Reader::placed))]
 fn stop(number: u64, out: &mut [u8], at: usize) -> Progress
     requires { at + most_printed ≤ length out.old }
     ensures { OnEveryBox (stopped number) out.old at result out.new × (result.end ≤ at + most_printed) }
 {
-    let end = texts::put_bad_line(out, at, number);
     Progress {
         reader: Reader {
-            number: number,
+            number,
             stage: Stage::Ended,
         },
-        end: end,
+        end: texts::put_bad_line(out, at, number),
     }
 }
 
 // The end of the header, of which k bytes are read.
+#[tactic(auto, using(script_printout::proofs::TextLaw::header_length, script_printout::proofs::TextLaw::heading_size), unfolding(script_printout::specs::Reader::header_end, script_printout::specs::Reader::placed))]
 fn end_header(number: u64, k: usize, out: &mut [u8], at: usize) -> Progress
     requires { at + most_printed ≤ length out.old }
     ensures { OnEveryBox (header_end number k) out.old at result out.new × (result.end ≤ at + most_printed) }
 {
-    if k != texts::HEADER_SIZE {
+    if k != texts::HEADER.len() {
         return stop(number, out, at);
     }
-    let end = texts::put_heading(out, at);
     Progress {
         reader: reader_behind(number),
-        end: end,
+        end: texts::put_heading(out, at),
     }
 }
 
 // A byte of the header, of which k are read.
+#[tactic(auto, using(octets::proofs::ReplacedLaw::replaced_none, script_printout::proofs::TextLaw::header_length), unfolding(script_printout::specs::Reader::header_byte, script_printout::specs::Reader::placed))]
 fn read_header(number: u64, k: usize, byte: u8, out: &mut [u8], at: usize) -> Progress
     requires { at + most_printed ≤ length out.old }
     ensures { OnEveryBox (λ s. header_byte number k s byte) out.old at result out.new × (result.end ≤ at + most_printed) }
@@ -80,7 +78,7 @@ fn read_header(number: u64, k: usize, byte: u8, out: &mut [u8], at: usize) -> Pr
     }
     Progress {
         reader: Reader {
-            number: number,
+            number,
             stage: Stage::Header(k + 1),
         },
         end: at,
@@ -88,6 +86,7 @@ fn read_header(number: u64, k: usize, byte: u8, out: &mut [u8], at: usize) -> Pr
 }
 
 // The end of a line of values: its command is run, and the answer printed.
+#[tactic(auto, unfolding(script_printout::specs::Reader::line_end, script_printout::specs::Reader::placed))]
 fn end_line(
     number: u64,
     line: Line,
@@ -101,20 +100,18 @@ fn end_line(
         ≡ placed out.old at (line_end number line (box_at memory.old disk.old)))
         × (result.end ≤ at + most_printed) }
 {
-    match script_lines::judge(line) {
-        Judged::Right(v) => {
-            let shown = script_answers::run(memory, disk, v);
-            let end = printing::put_line(out, at, v, shown);
-            Progress {
-                reader: reader_behind(number),
-                end: end,
-            }
-        }
-        Judged::Malformed => stop(number, out, at),
+    let Some(values) = script_lines::judge(line) else {
+        return stop(number, out, at);
+    };
+    let shown = script_answers::run(memory, disk, values);
+    Progress {
+        reader: reader_behind(number),
+        end: printing::put_line(out, at, values, shown),
     }
 }
 
 // A byte of a line of values.
+#[tactic(auto, using(octets::proofs::ReplacedLaw::replaced_none), unfolding(script_printout::specs::Reader::body_byte, script_printout::specs::Reader::placed))]
 fn read_body(
     number: u64,
     line: Line,
@@ -132,19 +129,20 @@ fn read_body(
     if byte == NEWLINE {
         return end_line(number, line, memory, disk, out, at);
     }
-    match script_lines::after_byte(line, byte) {
-        Next::Going(next) => Progress {
-            reader: Reader {
-                number: number,
-                stage: Stage::Body(next),
-            },
-            end: at,
+    let Some(next) = script_lines::after_byte(line, byte) else {
+        return stop(number, out, at);
+    };
+    Progress {
+        reader: Reader {
+            number,
+            stage: Stage::Body(next),
         },
-        Next::Wrong => stop(number, out, at),
+        end: at,
     }
 }
 
 // One byte: what it prints goes into out from place at on.
+#[tactic(auto, using(octets::proofs::ReplacedLaw::replaced_none), unfolding(script_printout::specs::Reader::byte_read, script_printout::specs::Reader::placed))]
 pub fn read_byte(
     reader: Reader,
     memory: &mut [u8; MEMORY_SIZE],
@@ -159,18 +157,15 @@ pub fn read_byte(
         × (result.end ≤ at + most_printed) }
 {
     let number = reader.number;
-    let stage = reader.stage;
-    match stage {
+    match reader.stage {
         Stage::Header(k) => read_header(number, k, byte, out, at),
         Stage::Body(line) => read_body(number, line, memory, disk, byte, out, at),
-        Stage::Ended => Progress {
-            reader: reader,
-            end: at,
-        },
+        Stage::Ended => Progress { reader, end: at },
     }
 }
 
 // The end of the input, where a line of values is being read.
+#[tactic(auto, using(octets::proofs::ReplacedLaw::replaced_none), unfolding(script_printout::specs::Reader::body_end, script_printout::specs::Reader::placed))]
 fn end_body(
     reader: Reader,
     line: Line,
@@ -184,15 +179,13 @@ fn end_body(
         × (result.end ≤ most_printed) }
 {
     if script_lines::is_blank(line) {
-        return Progress {
-            reader: reader,
-            end: 0,
-        };
+        return Progress { reader, end: 0 };
     }
     end_line(reader.number, line, memory, disk, out, 0)
 }
 
 // The end of the input ends the last line, if a byte of it is read.
+#[tactic(auto, using(octets::proofs::ReplacedLaw::replaced_none), unfolding(script_printout::specs::Reader::input_end, script_printout::specs::Reader::placed))]
 pub fn end_input(
     reader: Reader,
     memory: &mut [u8; MEMORY_SIZE],
@@ -205,13 +198,9 @@ pub fn end_input(
         × (result.end ≤ most_printed) }
 {
     let number = reader.number;
-    let stage = reader.stage;
-    match stage {
+    match reader.stage {
         Stage::Header(k) => end_header(number, k, out, 0),
         Stage::Body(line) => end_body(reader, line, memory, disk, out),
-        Stage::Ended => Progress {
-            reader: reader,
-            end: 0,
-        },
+        Stage::Ended => Progress { reader, end: 0 },
     }
 }

@@ -3,38 +3,33 @@ ghost use Rattle.std.specs.Prelude.{◌≡◌, ◌&&◌, ◌+◌, ◌≤◌, eqb
 ghost use Rattle.octets.specs.Part.{replaced};
 ghost use Rattle.script_printout.specs.Printout.{header, heading, bad_line};
 
-use script_lines::NEWLINE;
-
-pub(crate) const HEADER_SIZE: usize = 20;
-
-const HEADING_SIZE: usize = 33;
-
-const BAD_SIZE: usize = 9;
+// The script's first line.
+pub(crate) const HEADER: &[u8] = b"kind block now value";
 
 // Whether a byte is the header's at place k.
+#[tactic(auto, unfolding(script_printout::specs::Printout::header))]
 pub(crate) fn is_header_byte(k: usize, byte: u8) -> bool
     ensures { result ≡ (ltb k (length header) && eqb (get_or header k 0) byte) }
 {
-    let text = b"kind block now value";
-    if HEADER_SIZE <= k {
-        return false;
-    }
-    text[k] == byte
+    HEADER.get(k) == Some(&byte)
+}
+
+// Puts a text into out from place at on, and answers the place behind it.
+fn put(out: &mut [u8], at: usize, text: &[u8]) -> usize
+    requires { at + length text.now ≤ length out.old }
+    ensures { (out.new ≡ replaced out.old at text.now) × (result ≡ at + length text.now) }
+{
+    octets::store_bytes(out, at, text);
+    at + text.len()
 }
 
 // Puts the printout's first line into out from place at on, and answers the place behind it.
+#[tactic(auto, unfolding(script_printout::specs::Printout::heading))]
 pub(crate) fn put_heading(out: &mut [u8], at: usize) -> usize
     requires { at + length heading ≤ length out.old }
     ensures { (out.new ≡ replaced out.old at heading) × (result ≡ at + length heading) }
 {
-    octets::copy(
-        b"kind block now answer state left\n",
-        0,
-        out,
-        at,
-        HEADING_SIZE,
-    );
-    at + HEADING_SIZE
+    put(out, at, b"kind block now answer state left\n")
 }
 
 // The same of the line that says that line n is not of the form.
@@ -42,8 +37,7 @@ pub(crate) fn put_bad_line(out: &mut [u8], at: usize, n: u64) -> usize
     requires { at + length (bad_line n) ≤ length out.old }
     ensures { (out.new ≡ replaced out.old at (bad_line n)) × (result ≡ at + length (bad_line n)) }
 {
-    octets::copy(b"bad line ", 0, out, at, BAD_SIZE);
-    let end = decimal::put(out, at + BAD_SIZE, n);
-    out[end] = NEWLINE;
-    end + 1
+    let number = put(out, at, b"bad line ");
+    let end = decimal::put(out, number, n);
+    put(out, end, b"\n")
 }

@@ -5,8 +5,8 @@ use mathlib.Core.List.{List, [], ◌∷◌, ◌++◌, map, append-nil}
 use Prim.Native.Nat.{ℕ, zero, suc, ◌*◌, ◌≤◌, ◌<◌}
 use native.Mathlib.Omega.{arith}
 use borrow.Author.Tests.{le-leb, not-false}
-use lib.ListN.{length, take}
-use lib.IntN.{pos}
+use lib.ListN.{length}
+use Rattle.std.specs.Prelude.{Some}
 use Rattle.machine.specs.Command.{Box}
 use Rattle.script_answers.specs.Answer.{most_printed}
 use Rattle.script_printout.specs.declared.Stage.TheVariants.{Header, Body, Ended}
@@ -17,6 +17,7 @@ use Rattle.script_printout.specs.Claims.{Call, output_of, all_written, BuffersFi
 use Rattle.script_printout.proofs.ReaderLaw.{byte_ended, end_ended}
 use Rattle.script_printout.proofs.Theorems.{calls_whole, pieces_printed}
 use Rattle.script_io.specs.Turn.{stepped, has_ended, is_end, goes_on}
+use Rattle.script_io.proofs.TurnLaw.{stepped_some}
 use Rattle.script_io.specs.Claims.{Read, turn_of, turns_written, call_of, GetBytes, TurnsPrinted}
 
 -- ---- behind a bad line
@@ -48,11 +49,6 @@ module _ (r : Reader) (s : Box) (e : r.stage ≡ Ended) where
 
 -- that gets bytes
 module _ (r : Reader) (s : Box) where
-  stepped_some : (n : ℕ) (piece out : List ℕ) → 0 < n → stepped r s (pos n) piece out ≡ fed r s (take n piece) out
-  unfolding stepped
-  stepped_some zero piece out h = absurd (omega arith)
-  stepped_some (suc k) piece out h = refl
-
   fed_taken : (piece out : List ℕ) → length piece * most_printed ≤ length out → (fed r s piece out).taken ≡ true
   unfolding fed
   fed_taken piece out h = rw (le-leb (length piece * most_printed) (length out) h, fed)
@@ -79,16 +75,16 @@ turns_calls : (reads : List Read) (last : Read) (r : Reader) (s : Box) → GetBy
     → turns_written r s (reads ++ (last ∷ [])) ≡ all_written r s (map call_of reads) last.buffer
 unfolding turns_written all_written stepped
 turns_calls [] last r s g e h l =
-    let f = stepped r s (pos last.got) last.piece last.buffer in
+    let f = stepped r s (Some last.got) last.piece last.buffer in
     ap (λ (t : List ℕ). output_of f ++ t) (chosen (goes_on (turn_of last.got f)) [] [] (λ _. refl) (λ _. refl))
     ∙ append-nil (output_of f)
-    ∙ ap (λ (n : ℕ). output_of (stepped r s (pos n) last.piece last.buffer)) e
+    ∙ ap (λ (n : ℕ). output_of (stepped r s (Some n) last.piece last.buffer)) e
 turns_calls (x ∷ reads) last r s g e h l =
     let f = fed r s (call_of x).piece x.buffer in
     let r' = f.placed.reader in
     let s' = f.placed.box in
     let taken = fed_taken r s (call_of x).piece x.buffer h.0 in
-    ap (written_from x.got (reads ++ (last ∷ []))) (stepped_some r s x.got x.piece x.buffer g.0)
+    ap (written_from x.got (reads ++ (last ∷ []))) (stepped_some r s x.piece x.buffer x.got g.0)
     ∙ ap (λ (t : List ℕ). output_of f ++ t)
     (chosen (goes_on (turn_of x.got f)) (turns_written r' s' (reads ++ (last ∷ []))) (all_written r' s' (map call_of reads) last.buffer)
     (λ _. turns_calls reads last r' s' g.1 e h.1 l)

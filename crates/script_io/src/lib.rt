@@ -12,42 +12,30 @@ ghost use Rattle.script_io.specs.Turn.{stepped};
 
 use addressing::GROUP_SIZE;
 use memory::layout::MEMORY_SIZE;
-use script::Fed;
-use script_printout::Reader;
+use script_printout::{Progress, Reader};
 use std::io::Read;
 
 // The buffer for what is printed, `io::large_buffer`, has space for a line at each byte of a piece.
 const PIECE_SIZE: usize = 512;
 
-// A turn: what the read answered, what the step on it left, and whether all that it printed is written.
-#[derive(Clone, Copy)]
+// A turn: how many bytes the read got, if it did not fail; what the step on it left, if the buffer had room; and whether all that it
+// printed is written.
+#[derive(Clone, Copy, Debug, PartialEq, Eq)]
 pub struct Turn {
-    pub got: isize,
-    pub fed: Fed,
+    pub got: Option<usize>,
+    pub fed: Option<Progress>,
     pub written: bool,
 }
 
 // Says on standard error what failed in a turn, if anything did.
 fn say_failure(rt: &impl Eprint, turn: Turn) {
-    if turn.got < 0 {
-        let _ = rt.eprintln("cannot read the script");
-        return;
-    }
-    if !turn.fed.taken {
-        let _ = rt.eprintln("the buffer for the printout is too small");
-        return;
-    }
-    if !turn.written {
-        let _ = rt.eprintln("cannot write the printout");
-    }
-}
-
-// How many bytes a read puts at the start of piece, or a number below 0 where it fails.
-fn read_bytes<R: Read>(input: &mut R, piece: &mut [u8]) -> isize {
-    match input.read(piece) {
-        Ok(n) => n as isize,
-        Err(_) => -1,
-    }
+    let failure = match turn {
+        Turn { got: None, .. } => "cannot read the script",
+        Turn { fed: None, .. } => "the buffer for the printout is too small",
+        Turn { written: false, .. } => "cannot write the printout",
+        _ => return,
+    };
+    let _ = rt.eprintln(failure);
 }
 
 // Reads one piece and writes what it prints. Whatever the read answers and puts into piece, the rest is the step on that.
@@ -60,15 +48,15 @@ fn read_piece<R: Read>(
     piece: &mut [u8],
     out: &mut [u8],
 ) -> Turn
-    ensures { fed_of result.fed.taken result.fed.progress (box_at memory.new disk.new) out.new
+    ensures { fed_of reader result.fed (box_at memory.new disk.new) out.new
         ≡ stepped reader (box_at memory.old disk.old) result.got piece.new out.old }
 {
-    let got = read_bytes(input, piece);
+    let got = input.read(piece).ok();
     let fed = steps::step(reader, memory, disk, got, piece, out);
-    let end = fed.progress.end;
+    let end = fed.map_or(0, |progress| progress.end);
     let turn = Turn {
-        got: got,
-        fed: fed,
+        got,
+        fed,
         written: rt.write_all(&out[..end]).is_ok(),
     };
     say_failure(rt, turn);
@@ -76,7 +64,7 @@ fn read_piece<R: Read>(
 }
 
 // Turn after turn, each with the reader that the one before left. What is proved of it is that it is safe and ends: a proved loop has to, so
-// it counts its turns down, from a number that no run uses up.
+// it counts its turns, up to a number that no run reaches.
 fn read_pieces<R: Read>(
     rt: &(impl Print + Eprint),
     input: &mut R,
@@ -86,13 +74,12 @@ fn read_pieces<R: Read>(
     out: &mut [u8],
 ) {
     let mut reader = script::begin(memory, disk);
-    let mut going = true;
-    let mut turns = u64::MAX;
-    while turns > 0 && going {
+    for _ in 0..u64::MAX {
         let turn = read_piece(rt, input, reader, memory, disk, piece, out);
-        reader = turn.fed.progress.reader;
-        going = steps::goes_on(turn);
-        turns -= 1;
+        match turn.fed {
+            Some(progress) if steps::goes_on(turn) => reader = progress.reader,
+            _ => return,
+        }
     }
 }
 

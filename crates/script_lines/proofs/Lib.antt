@@ -1,7 +1,6 @@
 -- The laws of a script's lines, by theme, and the claims of specs/Claims.antt, proved.
 pub mod CutLaw
 pub mod ReadingLaw
-pub mod StepLaw
 pub mod FieldLaw
 pub mod SyntaxLaw
 pub mod LineLaw

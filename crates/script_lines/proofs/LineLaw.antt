@@ -10,13 +10,11 @@ use borrow.Author.Tests.{eqb-true, eqb-false, ne_eqb, ltb-true, ltb-false, leb-t
 use lib.Dec.{eqb, ltb, leb}
 use lib.ListN.{length}
 use lib.Seq.{append_snoc}
+use Rattle.std.specs.Prelude.{Option, Some, None}
 use Rattle.decimal.specs.Decimal.{zero_digit, decimal, spelled, spelled_after}
 use Rattle.decimal.proofs.DecimalLaw.{decimal_one, decimal_digit, spelled_decimal}
 use Rattle.script_lines.specs.declared.Line.{Line}
-use Rattle.script_lines.specs.declared.Next.{Next}
-use Rattle.script_lines.specs.declared.Next.TheVariants.{Going, Wrong}
-use Rattle.script_lines.specs.declared.Judged.{Judged}
-use Rattle.script_lines.specs.declared.Judged.TheVariants.{Right, Malformed}
+use Rattle.script_lines.specs.declared.Values.{Values}
 use Rattle.script_lines.specs.Syntax.{space, fields, most_value, is_value, parsed}
 use Rattle.script_lines.specs.Reading.{blank, after_space, after_digit, after_byte, read_on, judged, verdict}
 use Rattle.script_lines.proofs.CutLaw.{Without, cut_at, cut_field, cut_separator, cut_some}
@@ -86,9 +84,9 @@ text_spelled false n h = sym (h refl)
 -- ---- a step
 
 data Step (vs : List ℕ) (l : Line) (b : ℕ) : Type 0 where
-  goes : (vs' : List ℕ) (l' : Line) → after_byte l b ≡ Going l' → Kept vs' l'
+  goes : (vs' : List ℕ) (l' : Line) → after_byte l b ≡ Some l' → Kept vs' l'
       → ((y : List ℕ) → ended vs' (text_of l' ++ y) ≡ ended vs (text_of l ++ (b ∷ y))) → Step vs l b
-  stops : after_byte l b ≡ Wrong → ((y : List ℕ) → parsed (ended vs (text_of l ++ (b ∷ y))) ≡ Malformed) → Step vs l b
+  stops : after_byte l b ≡ None → ((y : List ℕ) → parsed (ended vs (text_of l ++ (b ∷ y))) ≡ None) → Step vs l b
 
 abbrev spaced : Line → Line
 spaced l = record { count = l.count + 1; first = l.second; second = l.third; third = l.last; begun = false; last = 0 }
@@ -100,8 +98,8 @@ space_step : (vs : List ℕ) (l : Line) → Kept vs l → Step vs l space
 unfolding after_byte after_space
 space_step vs l k = go l.begun refl (ltb l.count 3) refl
   where
-    on : (t : Bool) → (l.begun && ltb l.count 3) ≡ t → after_byte l space ≡ elim t [ true ↦ Going (spaced l) | false ↦ Wrong ]
-    on t e = ap (λ (u : Bool). elim u [ true ↦ Going (spaced l) | false ↦ Wrong ]) e
+    on : (t : Bool) → (l.begun && ltb l.count 3) ≡ t → after_byte l space ≡ elim t [ true ↦ Some (spaced l) | false ↦ None ]
+    on t e = ap (λ (u : Bool). elim u [ true ↦ Some (spaced l) | false ↦ None ]) e
 
     go : (t : Bool) → l.begun ≡ t → (c : Bool) → ltb l.count 3 ≡ c → Step vs l space
     go true e true f =
@@ -146,7 +144,7 @@ grown_text false n b h g some none =
     decimal_one (n * 10 + (b - zero_digit)) (omega arith) ∙ ap (λ (x : ℕ). x ∷ []) (omega arith)
 
 module _ (vs : List ℕ) (l : Line) (b : ℕ) (k : Kept vs l) (other : b ≡ space → ⊥) where
-  stopped : after_byte l b ≡ Wrong → ((u : List ℕ) → is_value (text_of l ++ (b ∷ u)) ≡ false) → Step vs l b
+  stopped : after_byte l b ≡ None → ((u : List ℕ) → is_value (text_of l ++ (b ∷ u)) ≡ false) → Step vs l b
   stopped e none = stops e (λ y. malformed_behind vs (text_of l) b y (text_without l.begun l.last) other none)
 
   digit_step : zero_digit ≤ b → b < zero_digit + 10 → Step vs l b
@@ -157,13 +155,13 @@ module _ (vs : List ℕ) (l : Line) (b : ℕ) (k : Kept vs l) (other : b ≡ spa
       is =
           ap₂
           (λ (s t : Bool).
-          elim s [ true ↦ after_space l | false ↦ elim t [ true ↦ after_digit l (b - zero_digit) | false ↦ Wrong ] ])
+          elim s [ true ↦ after_space l | false ↦ elim t [ true ↦ after_digit l (b - zero_digit) | false ↦ None ] ])
           (ne_eqb b space other)
           (ap₂ ◌&&◌ (le-leb zero_digit b low) (lt-ltb (b - zero_digit) 10 (omega arith)))
 
       on : (t : Bool) → ((l.begun && eqb l.last 0) || ltb most_value (l.last * 10 + (b - zero_digit))) ≡ t
-          → after_byte l b ≡ elim t [ true ↦ Wrong | false ↦ Going (grown l (b - zero_digit)) ]
-      on t e = is ∙ ap (λ (u : Bool). elim u [ true ↦ Wrong | false ↦ Going (grown l (b - zero_digit)) ]) e
+          → after_byte l b ≡ elim t [ true ↦ None | false ↦ Some (grown l (b - zero_digit)) ]
+      on t e = is ∙ ap (λ (u : Bool). elim u [ true ↦ None | false ↦ Some (grown l (b - zero_digit)) ]) e
 
       going : ltb most_value (l.last * 10 + (b - zero_digit)) ≡ false → (l.begun && eqb l.last 0) ≡ false
           → (l.begun ≡ true → l.last ≡ 0 → ⊥) → Step vs l b
@@ -209,11 +207,11 @@ module _ (vs : List ℕ) (l : Line) (b : ℕ) (k : Kept vs l) (other : b ≡ spa
           )))
       none false e = refl
 
-      is : after_byte l b ≡ Wrong
+      is : after_byte l b ≡ None
       is =
           ap₂
           (λ (s t : Bool).
-          elim s [ true ↦ after_space l | false ↦ elim t [ true ↦ after_digit l (b - zero_digit) | false ↦ Wrong ] ])
+          elim s [ true ↦ after_space l | false ↦ elim t [ true ↦ after_digit l (b - zero_digit) | false ↦ None ] ])
           (ne_eqb b space other)
           (none (leb zero_digit b && ltb (b - zero_digit) 10) refl)
 
@@ -233,11 +231,11 @@ line_end_lem : (vs : List ℕ) (l : Line) → Kept vs l → judged l ≡ parsed 
 unfolding judged
 line_end_lem vs l k = go l.begun refl (eqb l.count 3) refl
   where
-    values : Judged
-    values = Right (record { kind = l.first; block = l.second; time = l.third; value = l.last })
+    values : Option Values
+    values = Some (record { kind = l.first; block = l.second; time = l.third; value = l.last })
 
-    on : (t : Bool) → (l.begun && eqb l.count 3) ≡ t → judged l ≡ elim t [ true ↦ values | false ↦ Malformed ]
-    on t e = ap (λ (u : Bool). elim u [ true ↦ values | false ↦ Malformed ]) e
+    on : (t : Bool) → (l.begun && eqb l.count 3) ≡ t → judged l ≡ elim t [ true ↦ values | false ↦ None ]
+    on t e = ap (λ (u : Bool). elim u [ true ↦ values | false ↦ None ]) e
 
     ends : (t : Bool) → l.begun ≡ t → parsed (ended vs (begun_text t l.last)) ≡ parsed (ended vs (text_of l))
     ends t e = ap (λ (u : Bool). parsed (ended vs (begun_text u l.last))) (sym e)
@@ -262,17 +260,17 @@ line_end_lem vs l k = go l.begun refl (eqb l.count 3) refl
 
 -- ---- the whole line
 
-line_on : (r vs : List ℕ) (l : Line) → Kept vs l → verdict (read_on (Going l) r) ≡ parsed (ended vs (text_of l ++ r))
+line_on : (r vs : List ℕ) (l : Line) → Kept vs l → verdict (read_on (Some l) r) ≡ parsed (ended vs (text_of l ++ r))
 unfolding read_on
 line_on [] vs l k = line_end_lem vs l k ∙ ap (λ (x : List ℕ). parsed (ended vs x)) (sym (append-nil (text_of l)))
 line_on (b ∷ r) vs l k = go (λ vs' l' k'. line_on r vs' l' k') (step vs l b k)
   where
-    go : ((vs' : List ℕ) (l' : Line) → Kept vs' l' → verdict (read_on (Going l') r) ≡ parsed (ended vs' (text_of l' ++ r))) → Step vs l b
+    go : ((vs' : List ℕ) (l' : Line) → Kept vs' l' → verdict (read_on (Some l') r) ≡ parsed (ended vs' (text_of l' ++ r))) → Step vs l b
         → verdict (read_on (after_byte l b) r) ≡ parsed (ended vs (text_of l ++ (b ∷ r)))
-    go more (goes vs' l' e k' same) = ap (λ (n : Next). verdict (read_on n r)) e ∙ more vs' l' k' ∙ ap parsed (same r)
-    go more (stops e none) = ap (λ (n : Next). verdict (read_on n r)) e ∙ ap verdict (wrong_stays r) ∙ sym (none r)
+    go more (goes vs' l' e k' same) = ap (λ (n : Option Line). verdict (read_on n r)) e ∙ more vs' l' k' ∙ ap parsed (same r)
+    go more (stops e none) = ap (λ (n : Option Line). verdict (read_on n r)) e ∙ ap verdict (wrong_stays r) ∙ sym (none r)
 
-pub line_verdict : (line : List ℕ) → verdict (read_on (Going blank) line) ≡ parsed line
+pub line_verdict : (line : List ℕ) → verdict (read_on (Some blank) line) ≡ parsed line
 line_verdict line =
     line_on line [] blank
     (record { stands = refl; first = omega arith; second = omega arith; third = omega arith; last = omega arith; fresh = λ e. refl })

@@ -8,11 +8,10 @@ use native.Mathlib.Omega.{arith}
 use borrow.Author.Tests.{eqb-true, ne_eqb}
 use lib.Dec.{eqb}
 use lib.ListN.{length, get_or}
+use Rattle.std.specs.Prelude.{Option, Some, None}
 use Rattle.decimal.specs.Decimal.{decimal, spelled}
 use Rattle.decimal.proofs.DecimalLaw.{spelled_decimal}
 use Rattle.script_lines.specs.declared.Values.{Values}
-use Rattle.script_lines.specs.declared.Judged.{Judged}
-use Rattle.script_lines.specs.declared.Judged.TheVariants.{Right, Malformed}
 use Rattle.script_lines.specs.Syntax.{space, fields, most_value, is_value, is_line, parsed}
 use Rattle.script_lines.specs.Claims.{line_of, ValuesFit}
 use Rattle.script_lines.proofs.CutLaw.{Without, cut_at, cut_field, cut_further, joined, joined_cut}
@@ -24,23 +23,23 @@ abbrev values_at : List (List ℕ) → Values
 values_at fs =
     record { kind = spelled (get_or fs 0 []); block = spelled (get_or fs 1 []); time = spelled (get_or fs 2 []); value = spelled (get_or fs 3 []) }
 
-abbrev of_test : Bool → List (List ℕ) → Judged
-of_test t fs = elim t [ true ↦ Right (values_at fs) | false ↦ Malformed ]
+abbrev of_test : Bool → List (List ℕ) → Option Values
+of_test t fs = elim t [ true ↦ Some (values_at fs) | false ↦ None ]
 
 abbrev is_form : List (List ℕ) → Bool
 is_form fs = eqb (length fs) 4 && all fs is_value
 
-abbrev of_fields : List (List ℕ) → Judged
+abbrev of_fields : List (List ℕ) → Option Values
 of_fields fs = of_test (is_form fs) fs
 
 parsed_fields : (line : List ℕ) (fs : List (List ℕ)) → fields line ≡ fs → parsed line ≡ of_fields fs
 unfolding parsed is_line
 parsed_fields line fs e = ap of_fields e
 
-malformed : (fs : List (List ℕ)) → is_form fs ≡ false → of_fields fs ≡ Malformed
+malformed : (fs : List (List ℕ)) → is_form fs ≡ false → of_fields fs ≡ None
 malformed fs e = ap (λ (t : Bool). of_test t fs) e
 
-malformed_count : (fs : List (List ℕ)) → (length fs ≡ 4 → ⊥) → of_fields fs ≡ Malformed
+malformed_count : (fs : List (List ℕ)) → (length fs ≡ 4 → ⊥) → of_fields fs ≡ None
 malformed_count fs n = malformed fs (ap (λ (t : Bool). t && all fs is_value) (ne_eqb (length fs) 4 n))
 
 -- ---- values, each with a space behind it, in front of a text
@@ -71,7 +70,7 @@ ahead_value : (vs : List ℕ) (f : List ℕ) (fs : List (List ℕ)) → all (ahe
 ahead_value [] f fs e = all_head f fs e
 ahead_value (v ∷ vs) f fs e = ahead_value vs f fs (all_tail (decimal v) (ahead vs (f ∷ fs)) e)
 
-pub malformed_field : (vs y f : List ℕ) (fs : List (List ℕ)) → fields y ≡ f ∷ fs → is_value f ≡ false → parsed (ended vs y) ≡ Malformed
+pub malformed_field : (vs y f : List ℕ) (fs : List (List ℕ)) → fields y ≡ f ∷ fs → is_value f ≡ false → parsed (ended vs y) ≡ None
 malformed_field vs y f fs e n =
     parsed_fields (ended vs y) (ahead vs (f ∷ fs)) (fields_ended vs y ∙ ap (ahead vs) e)
     ∙ malformed (ahead vs (f ∷ fs)) (ap (λ (t : Bool). eqb (length (ahead vs (f ∷ fs))) 4 && t) none ∙ and-false (eqb (length (ahead vs (f ∷ fs))) 4))
@@ -83,13 +82,13 @@ malformed_field vs y f fs e n =
 
 -- where that field goes on, whatever follows
 pub malformed_behind : (vs x : List ℕ) (b : ℕ) (y : List ℕ) → Without space x → (b ≡ space → ⊥) → ((u : List ℕ) → is_value (x ++ (b ∷ u)) ≡ false)
-    → parsed (ended vs (x ++ (b ∷ y))) ≡ Malformed
+    → parsed (ended vs (x ++ (b ∷ y))) ≡ None
 malformed_behind vs x b y w n none =
     let f = cut_further space ([] ∷ []) x b y w n in
     malformed_field vs (x ++ (b ∷ y)) (x ++ (b ∷ f.piece)) f.pieces f.same (none f.piece)
 
 -- or another number of fields than four
-pub malformed_many : (vs y : List ℕ) (fs : List (List ℕ)) → fields y ≡ fs → (length vs + length fs ≡ 4 → ⊥) → parsed (ended vs y) ≡ Malformed
+pub malformed_many : (vs y : List ℕ) (fs : List (List ℕ)) → fields y ≡ fs → (length vs + length fs ≡ 4 → ⊥) → parsed (ended vs y) ≡ None
 malformed_many vs y fs e n =
     parsed_fields (ended vs y) (ahead vs fs) (fields_ended vs y ∙ ap (ahead vs) e)
     ∙ malformed_count (ahead vs fs) (λ c. n (omega (arith, ahead_length vs fs)))
@@ -97,7 +96,7 @@ malformed_many vs y fs e n =
 -- ---- the line of four values
 
 pub four_right : (a b c d : ℕ) → a ≤ most_value → b ≤ most_value → c ≤ most_value → d ≤ most_value
-    → parsed (ended (a ∷ b ∷ c ∷ []) (decimal d)) ≡ Right (record { kind = a; block = b; time = c; value = d })
+    → parsed (ended (a ∷ b ∷ c ∷ []) (decimal d)) ≡ Some (record { kind = a; block = b; time = c; value = d })
 four_right a b c d ha hb hc hd =
     parsed_fields (ended (a ∷ b ∷ c ∷ []) (decimal d)) fs
     (fields_ended (a ∷ b ∷ c ∷ []) (decimal d) ∙ ap (ahead (a ∷ b ∷ c ∷ [])) (cut_field space (decimal d) (decimal_without d)))
@@ -111,10 +110,10 @@ four_right a b c d ha hb hc hd =
     values =
         all_more _ _ (value_yes a ha) (all_more _ _ (value_yes b hb) (all_more _ _ (value_yes c hc) (all_more _ _ (value_yes d hd) all_none)))
 
-pub line_spelled : (v : Values) → ValuesFit v → parsed (line_of v) ≡ Right v
+pub line_spelled : (v : Values) → ValuesFit v → parsed (line_of v) ≡ Some v
 line_spelled v w = four_right v.kind v.block v.time v.value w.kind w.block w.time w.value
 
-right_test : (t : Bool) (fs : List (List ℕ)) (v : Values) → of_test t fs ≡ Right v → (t ≡ true) × (values_at fs ≡ v)
+right_test : (t : Bool) (fs : List (List ℕ)) (v : Values) → of_test t fs ≡ Some v → (t ≡ true) × (values_at fs ≡ v)
 right_test true fs v e = (refl, cc)
 right_test false fs v e = let z : ◌≡◌ {A = ℕ} 0 1 = cc in absurd (omega arith)
 
@@ -137,7 +136,7 @@ joined_values (a ∷ b ∷ c ∷ d ∷ []) n e =
       record { kind = va.within; block = vb.within; time = vc.within; value = vd.within },
     )
 
-pub line_only : (line : List ℕ) (v : Values) → parsed line ≡ Right v → (line ≡ line_of v) × ValuesFit v
+pub line_only : (line : List ℕ) (v : Values) → parsed line ≡ Some v → (line ≡ line_of v) × ValuesFit v
 line_only line v e =
     let fs = fields line in
     let r = right_test (is_form fs) fs v (sym (parsed_fields line fs refl) ∙ e) in

@@ -1,12 +1,10 @@
 -- The form of a script, after document 01, "The script and its printout": its lines, and which line has four values. Assumes nothing:
 -- these are definitions.
-use Rattle.std.specs.Prelude.{Bool, true, false, ◌&&◌, ℕ, length, get_or, eqb, leb}
+use Rattle.std.specs.Prelude.{Bool, true, false, ◌&&◌, ℕ, length, get_or, eqb, leb, Option, Some, None}
 use mathlib.Core.List.{List, [], ◌∷◌, all}
 use Rattle.octets.specs.Part.{equal}
 use Rattle.decimal.specs.Decimal.{decimal, spelled}
 use Rattle.script_lines.specs.declared.Values.{Values}
-use Rattle.script_lines.specs.declared.Judged.{Judged}
-use Rattle.script_lines.specs.declared.Judged.TheVariants.{Right, Malformed}
 
 -- the line end, and what stands between two values, in ASCII
 abbrev pub newline : ℕ
@@ -52,5 +50,5 @@ abbrev pub values_of : List ℕ → Values
 values_of line = record { kind = value_at line 0; block = value_at line 1; time = value_at line 2; value = value_at line 3 }
 
 -- a line's values, or "not of this form"
-unfoldable pub parsed : List ℕ → Judged
-parsed line = elim (is_line line) [ true ↦ Right (values_of line) | false ↦ Malformed ]
+unfoldable pub parsed : List ℕ → Option Values
+parsed line = elim (is_line line) [ true ↦ Some (values_of line) | false ↦ None ]

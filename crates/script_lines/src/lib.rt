@@ -10,14 +10,11 @@ pub const NEWLINE: u8 = 10;
 
 pub const SPACE: u8 = 32;
 
-// The most that a value may be.
-const MOST_VALUE: u64 = 4294967295;
-
 // How many values stand before the last.
 const BEFORE_LAST: u32 = 3;
 
 // The values of a line.
-#[derive(Clone, Copy)]
+#[derive(Clone, Copy, Debug, PartialEq, Eq)]
 pub struct Values {
     pub kind: u32,
     pub block: u32,
@@ -26,7 +23,7 @@ pub struct Values {
 }
 
 // What is read of a line: how many values stand before a space, the last three of them, and the value behind them, if begun.
-#[derive(Clone, Copy)]
+#[derive(Clone, Copy, Debug, PartialEq, Eq)]
 pub struct Line {
     pub count: u32,
     pub first: u32,
@@ -34,20 +31,6 @@ pub struct Line {
     pub third: u32,
     pub begun: bool,
     pub last: u32,
-}
-
-// A line that may yet be right, or not.
-#[derive(Clone, Copy)]
-pub enum Next {
-    Going(Line),
-    Wrong,
-}
-
-// A whole line: its values, or not of the form.
-#[derive(Clone, Copy)]
-pub enum Judged {
-    Right(Values),
-    Malformed,
 }
 
 // The line of which nothing is read.
@@ -65,28 +48,22 @@ pub fn blank() -> Line
 }
 
 // Whether nothing is read of a line.
-#[tactic(auto, using(crate::proofs::StepLaw::blank_steps))]
+#[tactic(auto, unfolding(crate::specs::Reading::is_blank))]
 pub fn is_blank(line: Line) -> bool
     ensures { result ≡ R.is_blank line }
 {
-    if line.begun {
-        return false;
-    }
-    line.count == 0
+    !line.begun && line.count == 0
 }
 
 // A line after a space: a value stands before it, and one more is to come.
-#[tactic(auto, using(crate::proofs::StepLaw::space_steps))]
-fn after_space(line: Line) -> Next
+#[tactic(auto, unfolding(crate::specs::Reading::after_space))]
+fn after_space(line: Line) -> Option<Line>
     ensures { result ≡ R.after_space line }
 {
-    if !line.begun {
-        return Next::Wrong;
+    if !line.begun || BEFORE_LAST <= line.count {
+        return None;
     }
-    if BEFORE_LAST <= line.count {
-        return Next::Wrong;
-    }
-    Next::Going(Line {
+    Some(Line {
         count: line.count + 1,
         first: line.second,
         second: line.third,
@@ -97,58 +74,46 @@ fn after_space(line: Line) -> Next
 }
 
 // A line after a digit: not behind a leading zero, and the value stays within 32 bits.
-#[tactic(auto, using(crate::proofs::StepLaw::digit_steps))]
-fn after_digit(line: Line, digit: u32) -> Next
+#[tactic(auto, unfolding(crate::specs::Reading::after_digit))]
+fn after_digit(line: Line, digit: u32) -> Option<Line>
     requires { digit < 10 }
     ensures { result ≡ R.after_digit line digit }
 {
     if line.begun && line.last == 0 {
-        return Next::Wrong;
+        return None;
     }
-    let last = line.last as u64 * 10 + digit as u64;
-    if MOST_VALUE < last {
-        return Next::Wrong;
-    }
-    Next::Going(Line {
-        count: line.count,
-        first: line.first,
-        second: line.second,
-        third: line.third,
+    let last = line.last.checked_mul(10)?.checked_add(digit)?;
+    Some(Line {
         begun: true,
-        last: last as u32,
+        last,
+        ..line
     })
 }
 
-// A line after one byte more.
-#[tactic(auto, using(crate::proofs::StepLaw::byte_steps))]
-pub fn after_byte(line: Line, byte: u8) -> Next
+// A line after one byte more: none where it can no longer be right.
+#[tactic(auto, unfolding(crate::specs::Reading::after_byte))]
+pub fn after_byte(line: Line, byte: u8) -> Option<Line>
     ensures { result ≡ R.after_byte line byte }
 {
     if byte == SPACE {
         return after_space(line);
     }
-    if byte < decimal::ZERO_DIGIT {
-        return Next::Wrong;
-    }
-    let digit = (byte - decimal::ZERO_DIGIT) as u32;
+    let digit = byte.checked_sub(decimal::ZERO_DIGIT)?;
     if 10 <= digit {
-        return Next::Wrong;
+        return None;
     }
-    after_digit(line, digit)
+    after_digit(line, digit as u32)
 }
 
-// A line at its end.
-#[tactic(auto, using(crate::proofs::StepLaw::end_steps))]
-pub fn judge(line: Line) -> Judged
+// The values of a line at its end: none where it is not of the form.
+#[tactic(auto, unfolding(crate::specs::Reading::judged))]
+pub fn judge(line: Line) -> Option<Values>
     ensures { result ≡ R.judged line }
 {
-    if !line.begun {
-        return Judged::Malformed;
+    if !line.begun || line.count != BEFORE_LAST {
+        return None;
     }
-    if line.count != BEFORE_LAST {
-        return Judged::Malformed;
-    }
-    Judged::Right(Values {
+    Some(Values {
         kind: line.first,
         block: line.second,
         time: line.third,

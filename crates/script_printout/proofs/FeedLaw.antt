@@ -9,6 +9,7 @@ use native.Mathlib.Omega.{arith}
 use borrow.Author.Tests.{le-leb, lt-leb}
 use lib.ListN.{length, drop, get_or, length-append, drop_of_length-le}
 use lib.Seq.{drop-cons}
+use Rattle.std.specs.Prelude.{Some, None}
 use Rattle.octets.specs.Part.{replaced}
 use Rattle.octets.proofs.ReplacedLaw.{replaced_none, replaced_length, replaced_next}
 use Rattle.machine.specs.Command.{Box}
@@ -16,7 +17,7 @@ use Rattle.script_answers.specs.Answer.{most_printed}
 use Rattle.script_printout.specs.declared.Reader.{Reader}
 use Rattle.script_printout.specs.declared.Progress.{Progress}
 use Rattle.script_printout.specs.Reader.{Printing, printing, byte_read, prefixed, piece_read, input_end, Placed, placed, fed_of, fed, finished}
-use Rattle.script_printout.proofs.PlaceLaw.{PrintsOn, placed_none, placed_text}
+use Rattle.script_printout.proofs.PlaceLaw.{PrintsOn, nothing_placed, placed_text}
 
 -- i bytes of a piece are read, and what they printed stands at the buffer's start
 pub record Feeding (r : Reader) (s : Box) (piece out : List ℕ) (p : Progress) (t : Box) (now : List ℕ) (i : ℕ) : Type 0 where
@@ -51,7 +52,7 @@ module _ (r : Reader) (s : Box) (piece out : List ℕ) where
         ∙ ap (λ (x : List ℕ). prefixed f.printed (piece_read p.reader t x)) (drop_of_length-le piece h)
         ∙ ap (printing p.reader t) (append-nil f.printed)
 
-    pub feeding_end : length piece * most_printed ≤ length out → length piece ≤ i → (fed_of true p t now ≡ fed r s piece out) × (p.end ≤ length out)
+    pub feeding_end : length piece * most_printed ≤ length out → length piece ≤ i → (fed_of r (Some p) t now ≡ fed r s piece out) × (p.end ≤ length out)
     unfolding fed
     feeding_end fits h = (
       ap (λ (x : Placed). record { taken = true; placed = x })
@@ -95,30 +96,25 @@ module _ (r : Reader) (s : Box) (piece out : List ℕ) where
             }
 
   -- no room
-  pub feeding_none : (p : Progress) → p.reader ≡ r → p.end ≡ 0 → length out < length piece * most_printed
-      → (fed_of false p s out ≡ fed r s piece out) × (p.end ≤ length out)
+  pub feeding_none : length out < length piece * most_printed → fed_of r None s out ≡ fed r s piece out
   unfolding fed
-  feeding_none p e f h = (
-    ap (λ (x : Placed). record { taken = false; placed = x }) (placed_none p r s out 0 e f)
-        ∙ sym (rw (lt-leb (length piece * most_printed) (length out) h, fed)),
-    omega (arith, f),
-  )
+  feeding_none h =
+      ap (λ (x : Placed). record { taken = false; placed = x }) (nothing_placed r s out)
+      ∙ sym (rw (lt-leb (length piece * most_printed) (length out) h, fed))
 
 -- ---- the end of the input
 
 module _ (r : Reader) (s : Box) (out : List ℕ) where
   pub finished_printed : (p : Progress) (t : Box) (now : List ℕ) → most_printed ≤ length out → PrintsOn (input_end r s) out 0 p t now
-      → (fed_of true p t now ≡ finished r s out) × (p.end ≤ length out)
+      → (fed_of r (Some p) t now ≡ finished r s out) × (p.end ≤ length out)
   unfolding finished
   finished_printed p t now h w = (
     ap (λ (x : Placed). record { taken = true; placed = x }) w.0 ∙ sym (rw (le-leb most_printed (length out) h, finished)),
     omega (arith, w.1),
   )
 
-  pub finished_none : (p : Progress) → p.reader ≡ r → p.end ≡ 0 → length out < most_printed → (fed_of false p s out ≡ finished r s out) × (p.end ≤ length out)
+  pub finished_none : length out < most_printed → fed_of r None s out ≡ finished r s out
   unfolding finished
-  finished_none p e f h = (
-    ap (λ (x : Placed). record { taken = false; placed = x }) (placed_none p r s out 0 e f)
-        ∙ sym (rw (lt-leb most_printed (length out) h, finished)),
-    omega (arith, f),
-  )
+  finished_none h =
+      ap (λ (x : Placed). record { taken = false; placed = x }) (nothing_placed r s out)
+      ∙ sym (rw (lt-leb most_printed (length out) h, finished))

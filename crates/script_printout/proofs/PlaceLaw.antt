@@ -1,10 +1,11 @@
 -- Laws of what is printed into a buffer: nothing, a text, and one place after the other. Assumes nothing.
-use mathlib.Core.Path.{◌≡◌, ap, sym, ◌∙◌}
+use mathlib.Core.Path.{◌≡◌, refl, ap, sym, ◌∙◌}
 use mathlib.Core.List.{List, []}
 use Prim.Native.Nat.{ℕ, ◌+◌, ◌≤◌, ◌<◌}
 use native.Mathlib.Nat.{add-zero}
 use native.Mathlib.Omega.{arith}
 use lib.ListN.{length}
+use Rattle.std.specs.Prelude.{Some}
 use Rattle.octets.specs.Part.{repeated, replaced}
 use Rattle.octets.proofs.ReplacedLaw.{replaced_none}
 use Rattle.lockpage.specs.Geometry.{present}
@@ -13,7 +14,6 @@ use Rattle.machine.specs.Format.{FormatOutcome, format_outcome_of, format}
 use Rattle.memory.specs.Layout.{salt_size}
 use Rattle.script_lines.specs.declared.Values.{Values}
 use Rattle.script_lines.specs.declared.Line.{Line}
-use Rattle.script_lines.specs.declared.Judged.TheVariants.{Right}
 use Rattle.script_lines.specs.Reading.{judged}
 use Rattle.script_answers.specs.declared.Shown.{Shown}
 use Rattle.script_answers.specs.Answer.{most_printed, Ran, ran_of, ran_line, line_shown}
@@ -21,7 +21,7 @@ use Rattle.script_printout.specs.declared.Stage.TheVariants.{Ended}
 use Rattle.script_printout.specs.declared.Reader.{Reader}
 use Rattle.script_printout.specs.declared.Progress.{Progress}
 use Rattle.script_printout.specs.Printout.{script_box, header, heading, bad_line}
-use Rattle.script_printout.specs.Reader.{Printing, printing, reader_of, reader_behind, stopped, header_end, line_end, placed_of, placed, OnEveryBox}
+use Rattle.script_printout.specs.Reader.{Printing, printing, reader_of, reader_behind, stopped, header_end, line_end, placed_of, placed, placed_unaltered, OnEveryBox}
 use Rattle.script_printout.proofs.TextLaw.{heading_size, bad_line_size}
 use Rattle.script_printout.proofs.ReaderLaw.{header_whole, line_right}
 
@@ -35,6 +35,10 @@ placed_text p r s text out out' at e f g = cc
 pub placed_none : (p : Progress) (r : Reader) (s : Box) (out : List ℕ) (at : ℕ) → p.reader ≡ r → p.end ≡ at
     → placed_of p s out ≡ placed out at (printing r s [])
 placed_none p r s out at e f = placed_text p r s [] out out at e (sym (replaced_none out at)) (f ∙ sym (add-zero at))
+
+-- nothing at the start of a buffer leaves it as it is
+pub nothing_placed : (r : Reader) (s : Box) (out : List ℕ) → placed_unaltered r s out ≡ placed out 0 (printing r s [])
+nothing_placed r s out = placed_none (record { reader = r; end = 0 }) r s out 0 refl refl
 
 -- ---- on every box, and within a line
 
@@ -84,7 +88,7 @@ prints_none_on q r out at p s e f g = (placed_none p r s out at e f ∙ ap (plac
 
 pub prints_line : (number : ℕ) (line : Line) (v : Values) (s : Box) (memory disk : List ℕ) (shown : Shown) (out : List ℕ) (at : ℕ) (p : Progress)
     (out' : List ℕ)
-    → judged line ≡ Right v → ran_of memory disk shown ≡ ran_line s v → p.reader ≡ reader_behind number
+    → judged line ≡ Some v → ran_of memory disk shown ≡ ran_line s v → p.reader ≡ reader_behind number
     → (out' ≡ replaced out at (line_shown v shown)) × ((p.end ≡ at + length (line_shown v shown)) × (p.end ≤ at + most_printed))
     → PrintsOn (line_end number line s) out at p (box_of memory disk) out'
 prints_line number line v s memory disk shown out at p out' j e r w =

@@ -9,11 +9,10 @@ use mathlib.Mathlib.Data.Bool.Basic.{and_elim_left}
 use borrow.Author.Tests.{eq-eqb, ne_eqb, lt-ltb, ltb-true}
 use lib.Dec.{eqb, ltb}
 use lib.ListN.{length, get_or}
+use Rattle.std.specs.Prelude.{Some, None}
 use Rattle.machine.specs.Command.{Box}
 use Rattle.script_lines.specs.declared.Values.{Values}
 use Rattle.script_lines.specs.declared.Line.{Line}
-use Rattle.script_lines.specs.declared.Next.TheVariants.{Going, Wrong}
-use Rattle.script_lines.specs.declared.Judged.TheVariants.{Right, Malformed}
 use Rattle.script_lines.specs.Syntax.{newline}
 use Rattle.script_lines.specs.Reading.{blank, is_blank, after_byte, judged}
 use Rattle.script_answers.specs.Answer.{ran_line, line_shown}
@@ -43,12 +42,12 @@ pub header_short : (n k : ℕ) (s : Box) → (k ≡ length header → ⊥) → h
 unfolding header_end
 header_short n k s e = rw (ne_eqb k (length header) e, header_end)
 
-pub line_right : (n : ℕ) (line : Line) (s : Box) (v : Values) → judged line ≡ Right v
+pub line_right : (n : ℕ) (line : Line) (s : Box) (v : Values) → judged line ≡ Some v
     → line_end n line s ≡ printing (reader_of (next_number n) (Body blank)) (ran_line s v).box (line_shown v (ran_line s v).shown)
 unfolding line_end
 line_right n line s v e = rw (e, line_end)
 
-pub line_malformed : (n : ℕ) (line : Line) (s : Box) → judged line ≡ Malformed → line_end n line s ≡ stopped n s
+pub line_malformed : (n : ℕ) (line : Line) (s : Box) → judged line ≡ None → line_end n line s ≡ stopped n s
 unfolding line_end
 line_malformed n line s e = rw (e, line_end)
 
@@ -92,12 +91,12 @@ pub body_newline : (n : ℕ) (line : Line) (s : Box) (b : ℕ) → b ≡ newline
 unfolding body_byte
 body_newline n line s b e = rw (eq-eqb b newline e, body_byte)
 
-pub body_going : (n : ℕ) (line next : Line) (s : Box) (b : ℕ) → (b ≡ newline → ⊥) → after_byte line b ≡ Going next
+pub body_going : (n : ℕ) (line next : Line) (s : Box) (b : ℕ) → (b ≡ newline → ⊥) → after_byte line b ≡ Some next
     → body_byte n line s b ≡ printing (reader_of n (Body next)) s []
 unfolding body_byte
 body_going n line next s b e g = rw (ne_eqb b newline e, g, body_byte)
 
-pub body_wrong : (n : ℕ) (line : Line) (s : Box) (b : ℕ) → (b ≡ newline → ⊥) → after_byte line b ≡ Wrong → body_byte n line s b ≡ stopped n s
+pub body_wrong : (n : ℕ) (line : Line) (s : Box) (b : ℕ) → (b ≡ newline → ⊥) → after_byte line b ≡ None → body_byte n line s b ≡ stopped n s
 unfolding body_byte
 body_wrong n line s b e g = rw (ne_eqb b newline e, g, body_byte)
 

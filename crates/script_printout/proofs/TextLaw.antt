@@ -1,15 +1,15 @@
 -- Laws of the fixed texts: their lengths, the header's bytes, and the stores that put the heading and the line that names a bad one.
 -- Assumes nothing.
-use mathlib.Core.Path.{◌≡◌, refl, ap, ap₂, sym, ◌∙◌}
+use mathlib.Core.Path.{◌≡◌, refl, ap, ap₂, ◌∙◌}
 use mathlib.Core.Bool.{false, ◌&&◌}
 use mathlib.Core.List.{List, [], ◌∷◌, ◌++◌, append_assoc}
 use Prim.Native.Nat.{ℕ, ◌+◌, ◌≤◌, ◌<◌}
 use native.Mathlib.Omega.{arith}
 use borrow.Author.Tests.{lt-ltb, le-ltb}
 use lib.Dec.{eqb, ltb}
-use lib.ListN.{length, get_or, set, length-append}
-use Rattle.octets.specs.Part.{part, replaced}
-use Rattle.octets.proofs.ReplacedLaw.{replaced_length, replaced_append, replaced_sets, all_copied}
+use lib.ListN.{length, get_or, length-append}
+use Rattle.octets.specs.Part.{replaced}
+use Rattle.octets.proofs.ReplacedLaw.{replaced_append}
 use Rattle.decimal.specs.Decimal.{decimal}
 use Rattle.decimal.proofs.DecimalLaw.{decimal_size_64}
 use Rattle.script_lines.specs.Syntax.{newline}
@@ -51,39 +51,24 @@ header_within k b h = rw (lt-ltb k (length header) (omega (arith, header_length)
 
 -- ---- stores
 
-pub heading_put : (l r : List ℕ) (at : ℕ) → r ≡ replaced l at (part heading 0 33)
-    → (r ≡ replaced l at heading) × (at + 33 ≡ at + length heading)
-heading_put l r at e = (all_copied l heading r at 33 heading_length e, omega (arith, heading_length))
-
--- the line end of a bad line: m has what stands before it, and end is the place behind that
-pub record Rest (l : List ℕ) (at n : ℕ) (m : List ℕ) (end : ℕ) : Type 0 where
-  pub inside : end < length m
-  pub fits : end + 1 ≤ length l
-  pub put : (set m end newline ≡ replaced l at (bad_line n)) × (end + 1 ≡ at + length (bad_line n))
-
--- k has the text before the number
-pub bad_line_put : (l : List ℕ) (at n : ℕ) (k m : List ℕ) (end : ℕ) → at + length (bad_line n) ≤ length l
-    → k ≡ replaced l at (part bad 0 9) → (m ≡ replaced k (at + 9) (decimal n)) × (end ≡ at + 9 + length (decimal n)) → Rest l at n m end
+-- the text, the number behind it, and the line end behind both
+pub bad_line_put : (l : List ℕ) (at n : ℕ) (k m r : List ℕ) (i j end : ℕ) → at + length (bad_line n) ≤ length l
+    → (k ≡ replaced l at bad) × (i ≡ at + length bad)
+    → (m ≡ replaced k i (decimal n)) × (j ≡ i + length (decimal n))
+    → (r ≡ replaced m j (newline ∷ [])) × (end ≡ j + 1)
+    → (r ≡ replaced l at (bad_line n)) × (end ≡ at + length (bad_line n))
 unfolding bad_line
-bad_line_put l at n k m end h e f =
+bad_line_put l at n k m r i j end h e f g =
+    let text : List ℕ = bad ++ decimal n in
+    let long : length text ≡ length bad + length (decimal n) = length-append bad (decimal n) in
     let size : length (bad_line n) ≡ 9 + length (decimal n) + 1 = bad_line_length n in
     let nine : length bad ≡ 9 = bad_length_lem in
-    let text : List ℕ = bad ++ decimal n in
-    let long : length text ≡ 9 + length (decimal n) = length-append bad (decimal n) ∙ ap (λ (x : ℕ). x + length (decimal n)) nine in
     let before : m ≡ replaced l at text =
-    f.0
-    ∙ ap₂ (λ (x : List ℕ) (p : ℕ). replaced x (at + p) (decimal n)) (all_copied l bad k at 9 nine e) (sym nine)
-    ∙ replaced_append l at bad (decimal n) (omega arith) in
-    let place : end ≡ at + length text = omega (arith, f.1) in
-    let same : length m ≡ length l = ap length before ∙ replaced_length l at text (omega arith) in
-    record {
-      inside = omega arith;
-      fits = omega arith;
-      put = (
-        replaced_sets m end (newline ∷ []) (omega arith)
-            ∙ ap₂ (λ (x : List ℕ) (p : ℕ). replaced x p (newline ∷ [])) before place
-            ∙ replaced_append l at text (newline ∷ []) (omega arith)
-            ∙ ap (replaced l at) (append_assoc bad (decimal n) (newline ∷ [])),
-        omega (arith, size),
-      );
-    }
+    f.0 ∙ ap₂ (λ (x : List ℕ) (p : ℕ). replaced x p (decimal n)) e.0 e.1 ∙ replaced_append l at bad (decimal n) (omega arith) in
+    let place : j ≡ at + length text = omega (arith, e.1, f.1) in (
+      g.0
+          ∙ ap₂ (λ (x : List ℕ) (p : ℕ). replaced x p (newline ∷ [])) before place
+          ∙ replaced_append l at text (newline ∷ []) (omega arith)
+          ∙ ap (replaced l at) (append_assoc bad (decimal n) (newline ∷ [])),
+      omega (arith, size),
+    )

@@ -1,6 +1,6 @@
 -- The whole printout as a function of the whole input, after document 01, "The script and its printout". Assumes nothing: these are
 -- definitions.
-use Rattle.std.specs.Prelude.{true, false, List, [], ◌∷◌, ◌++◌, ℕ, suc}
+use Rattle.std.specs.Prelude.{true, false, List, [], ◌∷◌, ◌++◌, ℕ, suc, Some, None}
 use Rattle.octets.specs.Part.{repeated, equal}
 use Rattle.lockpage.specs.Geometry.{present}
 use Rattle.addressing.specs.Map.{disk_size}
@@ -8,7 +8,6 @@ use Rattle.memory.specs.Layout.{memory_size, salt_size}
 use Rattle.machine.specs.Command.{Box, box_of}
 use Rattle.machine.specs.Format.{format}
 use Rattle.decimal.specs.Decimal.{decimal}
-use Rattle.script_lines.specs.declared.Judged.TheVariants.{Right, Malformed}
 use Rattle.script_lines.specs.Syntax.{newline, lines, parsed}
 use Rattle.script_answers.specs.Answer.{ran_line, line_shown}
 
@@ -48,8 +47,8 @@ unfoldable pub body_printed : Box → ℕ → List (List ℕ) → List ℕ
 body_printed s n [] = []
 body_printed s n (line ∷ rest) =
     elim (parsed line) [
-      | Right v ↦ line_shown v (ran_line s v).shown ++ body_printed (ran_line s v).box (suc n) rest
-      | Malformed ↦ bad_line n
+      | Some v ↦ line_shown v (ran_line s v).shown ++ body_printed (ran_line s v).box (suc n) rest
+      | None ↦ bad_line n
     ]
 
 -- "Once the first line is read it prints" the heading; "an empty input is bad at line 1"

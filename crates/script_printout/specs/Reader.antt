@@ -1,11 +1,9 @@
 -- The reader: what is kept between two pieces of the input, and what a byte prints. That the pieces print the printout is the claim
 -- PiecesPrinted. Assumes nothing: these are definitions.
-use Rattle.std.specs.Prelude.{◌≡◌, Bool, true, false, ◌&&◌, List, [], ◌∷◌, ◌++◌, ℕ, ◌+◌, ◌*◌, min, length, get_or, eqb, ltb, leb}
+use Rattle.std.specs.Prelude.{◌≡◌, Bool, true, false, ◌&&◌, List, [], ◌∷◌, ◌++◌, ℕ, ◌+◌, ◌*◌, min, length, get_or, eqb, ltb, leb, Option, Some, None}
 use Rattle.octets.specs.Part.{replaced}
 use Rattle.machine.specs.Command.{Box}
 use Rattle.script_lines.specs.declared.Line.{Line}
-use Rattle.script_lines.specs.declared.Next.TheVariants.{Going, Wrong}
-use Rattle.script_lines.specs.declared.Judged.TheVariants.{Right, Malformed}
 use Rattle.script_lines.specs.Syntax.{newline}
 use Rattle.script_lines.specs.Reading.{blank, is_blank, after_byte, judged}
 use Rattle.script_answers.specs.Answer.{most_printed, ran_line, line_shown}
@@ -58,8 +56,8 @@ header_end number k s =
 unfoldable pub line_end : ℕ → Line → Box → Printing
 line_end number line s =
     elim (judged line) [
-      | Right v ↦ printing (reader_behind number) (ran_line s v).box (line_shown v (ran_line s v).shown)
-      | Malformed ↦ stopped number s
+      | Some v ↦ printing (reader_behind number) (ran_line s v).box (line_shown v (ran_line s v).shown)
+      | None ↦ stopped number s
     ]
 
 -- one byte of the header
@@ -79,8 +77,8 @@ body_byte number line s b =
     elim (eqb b newline) [
       | true ↦ line_end number line s
       | false ↦ elim (after_byte line b) [
-        | Going next ↦ printing (reader_of number (Body next)) s []
-        | Wrong ↦ stopped number s
+        | Some next ↦ printing (reader_of number (Body next)) s []
+        | None ↦ stopped number s
       ]
     ]
 
@@ -119,6 +117,10 @@ pub record Placed : Type 0 where
 abbrev pub placed_of : Progress → Box → List ℕ → Placed
 placed_of p box out = record { reader = p.reader; box = box; out = out; end = p.end }
 
+-- nothing is read or printed
+abbrev pub placed_unaltered : Reader → Box → List ℕ → Placed
+placed_unaltered r box out = record { reader = r; box = box; out = out; end = 0 }
+
 unfoldable pub placed : List ℕ → ℕ → Printing → Placed
 placed out at p = record { reader = p.reader; box = p.box; out = replaced out at p.printed; end = at + length p.printed }
 
@@ -131,8 +133,10 @@ pub record Fed : Type 0 where
   pub taken : Bool
   pub placed : Placed
 
-abbrev pub fed_of : Bool → Progress → Box → List ℕ → Fed
-fed_of taken p box out = record { taken = taken; placed = placed_of p box out }
+-- what it answers, with the box and the buffer that it leaves. Where it answers none, the reader is as it was: r
+abbrev pub fed_of : Reader → Option Progress → Box → List ℕ → Fed
+fed_of r (Some p) box out = record { taken = true; placed = placed_of p box out }
+fed_of r None box out = record { taken = false; placed = placed_unaltered r box out }
 
 unfoldable pub fed : Reader → Box → List ℕ → List ℕ → Fed
 fed r s piece out =

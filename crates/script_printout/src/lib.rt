@@ -5,7 +5,7 @@
 use script_lines::Line;
 
 // What is being read: the header, of which so many bytes are read; a line of values; or nothing more.
-#[derive(Clone, Copy)]
+#[derive(Clone, Copy, Debug, PartialEq, Eq)]
 pub enum Stage {
     Header(usize),
     Body(Line),
@@ -13,14 +13,14 @@ pub enum Stage {
 }
 
 // What is kept between two pieces: the number of the line that is being read, and what is read of it.
-#[derive(Clone, Copy)]
+#[derive(Clone, Copy, Debug, PartialEq, Eq)]
 pub struct Reader {
     pub number: u64,
     pub stage: Stage,
 }
 
 // A reader, and the place in the buffer behind what is printed.
-#[derive(Clone, Copy)]
+#[derive(Clone, Copy, Debug, PartialEq, Eq)]
 pub struct Progress {
     pub reader: Reader,
     pub end: usize,

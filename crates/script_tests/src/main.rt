@@ -13,14 +13,18 @@ fn run_script(rt: &HostRuntime, name: &str) {
 }
 
 fn main(rt: HostRuntime) {
-    run_script(&rt, "bad_line");
-    run_script(&rt, "edges");
-    run_script(&rt, "empty");
-    run_script(&rt, "kinds");
-    run_script(&rt, "last_line");
-    run_script(&rt, "refusals");
-    run_script(&rt, "restart");
-    run_script(&rt, "updates_63");
-    run_script(&rt, "updates_64");
-    run_script(&rt, "updates_apart");
+    for name in [
+        "bad_line",
+        "edges",
+        "empty",
+        "kinds",
+        "last_line",
+        "refusals",
+        "restart",
+        "updates_63",
+        "updates_64",
+        "updates_apart",
+    ] {
+        run_script(&rt, name);
+    }
 }

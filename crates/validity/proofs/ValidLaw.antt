@@ -127,13 +127,6 @@ module _ {γ : Geometry} (σ : Proper γ) where
             (and_intro (le-leb 1 (update_count γ m) (v.updated some))
             (and_intro (le-leb (update_count γ m) most_updates (v.few_updates some)) refl))))
 
-    -- a test that has the facts' truth is the test
-    pub held_decided : (b : Bool) → (b ≡ true → ValidHeld γ m) → (ValidHeld γ m → b ≡ true) → b ≡ valid_held γ m
-    held_decided b f g = same_truth b (valid_held γ m) (λ e. held_valid (f e)) (λ e. g (held_facts e))
-
-    pub held_invalid : (ValidHeld γ m → ⊥) → false ≡ valid_held γ m
-    held_invalid n = held_decided false (λ e. absurd (false≢true e)) (λ v. absurd (n v))
-
   -- ---- all the clauses and the test
 
   module _ (m : List ℕ) where

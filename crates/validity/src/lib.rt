@@ -19,33 +19,20 @@ const FEW_GROUPS: u32 = 16;
 const PIECE_SIZE: usize = layout::COUNT_SIZE * (layout::MOST_GROUPS - FEW_GROUPS) as usize;
 
 // Whether what is held is valid, a page or none.
+#[tactic(auto, using(memory::proofs::HeldLaw::group_held_some, memory::proofs::HeldLaw::group_held_none, std::proofs::lemmas::Bool::Decides::nat_tests), unfolding(crate::specs::Valid::valid_held, crate::specs::Valid::every))]
 fn valid_held(memory: &[u8]) -> bool
     requires { (length memory.now ≡ memory_size present) × (groups present memory.now ≤ present.most_groups) }
     ensures { result ≡ valid_held present memory.now }
 {
-    let group = memory::held(memory);
     let updates = memory::update_count(memory);
-    if group == layout::NONE as u32 {
-        if updates != 0 {
-            return false;
-        }
-        return held_page::is_zero(memory);
-    }
-    let groups = memory::groups(memory);
-    if groups <= group {
+    let Some(group) = memory::held(memory) else {
+        return updates == 0 && held_page::is_zero(memory);
+    };
+    if memory::groups(memory) <= group {
         return false;
     }
     let count = memory::count(memory, group);
-    if count < 1 {
-        return false;
-    }
-    if COUNT_LIMIT < count {
-        return false;
-    }
-    if updates < 1 {
-        return false;
-    }
-    updates <= layout::MOST_UPDATES
+    1 <= count && count <= COUNT_LIMIT && 1 <= updates && updates <= layout::MOST_UPDATES
 }
 
 // Whether the counts of the groups from first on are 0. With few groups most are, and go in one piece of a fixed size, which a compiler
@@ -69,6 +56,7 @@ fn are_unused(memory: &[u8], first: u32) -> bool
 }
 
 // Whether the memory is valid.
+#[tactic(auto, using(std::proofs::lemmas::Bool::Decides::nat_tests), unfolding(crate::specs::Valid::valid, crate::specs::Valid::every))]
 pub fn valid(memory: &[u8]) -> bool
     ensures { result ≡ is_valid present memory.now }
 {
@@ -76,20 +64,10 @@ pub fn valid(memory: &[u8]) -> bool
         return false;
     }
     let groups = memory::groups(memory);
-    if groups < 1 {
-        return false;
-    }
-    if layout::MOST_GROUPS < groups {
-        return false;
-    }
-    if lockpage::updates::LATEST_TIME < memory::last_time(memory) {
-        return false;
-    }
-    if !are_unused(memory, groups) {
-        return false;
-    }
-    if !octets::filled(memory, layout::RESERVED_START, layout::RESERVED_SIZE, 0) {
-        return false;
-    }
-    valid_held(memory)
+    1 <= groups
+        && groups <= layout::MOST_GROUPS
+        && memory::last_time(memory) <= lockpage::updates::LATEST_TIME
+        && are_unused(memory, groups)
+        && octets::filled(memory, layout::RESERVED_START, layout::RESERVED_SIZE, 0)
+        && valid_held(memory)
 }

@@ -1,2 +1,3 @@
--- The laws that proofs cite.
-pub mod HeldLaw
+-- The laws that the proofs here cite.
+mod HeldLaw
+pub mod CodeLaw

@@ -8,7 +8,7 @@ use Rattle.answers.proofs.shows.answer_entry.Tie as tie
 returns : tie.Need-returns
 returns c =
     entry_answered σ _ _ _ _ _ _ _ _ _ c.requires c.zero_tail.ensures c.store_entry.ensures
-    c.store_time_left.ensures c.state.ensures c.state_number.ensures c.store_u8.ensures
+    c.store_time_left.ensures c.state.ensures c.from.ensures c.store_u8.ensures
 
 pub answer_entry_spec : {M : Type 1} → statement M
 answer_entry_spec =
