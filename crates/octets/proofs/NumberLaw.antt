@@ -188,8 +188,3 @@ number_of_four l at a b c d h ea eb ec ed =
     ))
 
 -- and stored one by one
-pub stored_four : (l : List ℕ) (at n : ℕ) → at + 4 ≤ length l
-    → set (set (set (set l at (n % 256)) (at + 1) (n / 256 % 256)) (at + 2) (n / 256 / 256 % 256)) (at + 3) (n / 256 / 256 / 256 % 256)
-    ≡ with_number l at 4 n
-unfolding with_number bytes
-stored_four l at n h = simp (add-one, add-two, add-three) (replaced_sets l at (bytes 4 n) h)

@@ -9,12 +9,6 @@ ghost use Rattle.octets.specs.Number.{number_at, with_number};
 ghost use Rattle.octets.specs.Signed.{twos};
 ghost use Rattle.octets.specs.Signed as S;
 
-fn wide(b: u8) -> u32
-    ensures { (result ≡ b) × (result < 256) }
-{
-    b as u32
-}
-
 // The number in the byte at a place.
 pub fn load_u8(s: &[u8], at: usize) -> u8
     requires { at + 1 ≤ length s.now }
@@ -37,18 +31,16 @@ pub fn load_u32(s: &[u8], at: usize) -> u32
     requires { at + 4 ≤ length s.now }
     ensures { result ≡ number_at s.now at 4 }
 {
-    wide(s[at]) + wide(s[at + 1]) * 256 + wide(s[at + 2]) * 65536 + wide(s[at + 3]) * 16777216
+    u32::from_le_bytes([s[at], s[at + 1], s[at + 2], s[at + 3]])
 }
 
 // Stores n in the four bytes from at on.
+#[tactic(auto, unfolding(crate::specs::Number::with_number, crate::specs::Number::bytes))]
 pub fn store_u32(s: &mut [u8], at: usize, n: u32)
     requires { at + 4 ≤ length s.old }
     ensures { s.new ≡ with_number s.old at 4 n }
 {
-    s[at] = (n % 256) as u8;
-    s[at + 1] = (n / 256 % 256) as u8;
-    s[at + 2] = (n / 256 / 256 % 256) as u8;
-    s[at + 3] = (n / 256 / 256 / 256 % 256) as u8;
+    store_bytes(s, at, &n.to_le_bytes());
 }
 
 // The number in the eight bytes from at on.
