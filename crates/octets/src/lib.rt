@@ -62,30 +62,12 @@ pub fn store_u64(s: &mut [u8], at: usize, n: u64)
     store_u32(s, at + 4, (n / 4294967296) as u32);
 }
 
-// The bits of z as an unsigned number. A cast takes no negative number: of those the complement is cast.
-fn bits(z: i64) -> u64
-    ensures { result ≡ twos z }
-{
-    if z < 0 { !(!z as u64) } else { z as u64 }
-}
-
-// The signed number with the bits of n.
-fn signed(n: u64) -> i64
-    ensures { result ≡ S.signed n }
-{
-    if n < 9223372036854775808 {
-        n as i64
-    } else {
-        !(!n as i64)
-    }
-}
-
 // The signed number in the eight bytes from at on.
 pub fn load_i64(s: &[u8], at: usize) -> i64
     requires { at + 8 ≤ length s.now }
     ensures { result ≡ S.signed (number_at s.now at 8) }
 {
-    signed(load_u64(s, at))
+    load_u64(s, at).cast_signed()
 }
 
 // Stores z in the eight bytes from at on.
@@ -93,7 +75,7 @@ pub fn store_i64(s: &mut [u8], at: usize, z: i64)
     requires { at + 8 ≤ length s.old }
     ensures { s.new ≡ with_number s.old at 8 (twos z) }
 {
-    store_u64(s, at, bits(z));
+    store_u64(s, at, z.cast_unsigned());
 }
 
 // Stores the bytes from at on.
