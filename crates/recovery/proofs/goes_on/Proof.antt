@@ -1,6 +1,4 @@
 -- `recovery::goes_on` meets its contract. Assumes nothing.
-use mathlib.Core.Path.{ap}
-use mathlib.Core.Bool.{not}
 use borrow.Author.Rules.{rules}
 use native.Mathlib.Omega.{arith}
 use Rattle.lockpage.specs.Geometry.{present}

@@ -1,6 +1,5 @@
 -- `recovery::walk` meets its contract. The loop's invariant: the blocks walked are marked and their records taken, and what the rest of
 -- the walk adds to these is what is recovered. Assumes nothing.
-use mathlib.Core.Bool.{not}
 use borrow.Author.Rules.{rules}
 use native.Mathlib.Omega.{arith}
 use mathlib.Core.Path.{◌≡◌, refl, ap, sym, ◌∙◌}
