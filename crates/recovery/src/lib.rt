@@ -55,10 +55,8 @@ fn goes_on(
     if !records::says_kept(e, point, time) {
         return false;
     }
-    if e.stamp / 2 < parent {
-        return false;
-    }
-    !marks::is_marked(marks, block)
+    let follows = e.stamp / 2 >= parent;
+    follows && !marks::is_marked(marks, block)
 }
 
 // Walks the log, and takes the records of each block walked.
@@ -69,10 +67,9 @@ fn walk(memory: &[u8], disk: &[u8], point: u32, time: u32, res: &mut [u8])
 {
     let end = versions_search::end_of(memory);
     let mut marks = [0u8; marks::MARKS_SIZE];
-    let mut left = end;
     let mut parent = 0;
     let mut next = FIRST_BLOCK as u64;
-    while left > 0 {
+    for _ in 0..end {
         if next >= end as u64 {
             return;
         }
@@ -85,7 +82,6 @@ fn walk(memory: &[u8], disk: &[u8], point: u32, time: u32, res: &mut [u8])
         let content = disk::whole::lend_block(disk, block);
         next = octets::load_u64(content, layout::POINTER_START);
         records::take_records(memory, disk, point, time, end, content, res);
-        left -= 1;
     }
 }
 
