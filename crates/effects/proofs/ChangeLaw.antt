@@ -2,11 +2,9 @@
 use mathlib.Core.Path.{◌≡◌, ap, ap₂, sym, ◌∙◌}
 use mathlib.Core.List.{List, ◌++◌}
 use Prim.Native.Nat.{ℕ}
-use native.Mathlib.Omega.{arith}
 use lib.ListN.{length, drop}
-use Rattle.octets.specs.Part.{part, replaced}
+use Rattle.octets.specs.Part.{part}
 use Rattle.octets.proofs.PartLaw.{part_first}
-use Rattle.octets.proofs.ReplacedLaw.{part_copied}
 use Rattle.lockpage.specs.Geometry.{Geometry, Proper}
 use Rattle.lockpage.specs.Size.{page_size}
 use Rattle.lockpage.specs.declared.Entry.{Entry}
@@ -15,7 +13,7 @@ use Rattle.lockpage.specs.Page.{entry_at, with_entry}
 use Rattle.lockpage.specs.Update.{updated}
 use Rattle.addressing.specs.Map.{group_of, place_of}
 use Rattle.memory.specs.Memory.{with_last_time}
-use Rattle.machine.specs.Command.{proof_size, brought_page, box_of, command_of, outcome_of}
+use Rattle.machine.specs.Command.{brought_page, box_of, command_of, outcome_of}
 use Rattle.machine.specs.Tag.{tagged}
 use Rattle.machine.specs.Effect.{Store, stored, evict, put_content, put_leaving, updated_page, changed_memory, change}
 use Rattle.machine.specs.Step.{timed, accepted}
@@ -27,14 +25,13 @@ use Rattle.effects.specs.Ready.{MayChange}
 -- γ is any proper geometry
 module _ {γ : Geometry} (σ : Proper γ) where
   -- the page brought copied, its entry stored
-  pub changed_stored : (u : Update) (buffer n r proof : List ℕ) (a i now : ℕ) (e f : Entry) → length buffer ≡ page_size γ → length proof ≡ proof_size γ
-      → e ≡ entry_at (brought_page γ proof) (place_of γ a) → n ≡ replaced buffer 0 (part proof 0 (page_size γ)) → i ≡ place_of γ a → f ≡ updated u now e
+  pub changed_stored : (u : Update) (n r proof : List ℕ) (a i now : ℕ) (e f : Entry)
+      → e ≡ entry_at (brought_page γ proof) (place_of γ a) → n ≡ part proof 0 (page_size γ) → i ≡ place_of γ a → f ≡ updated u now e
       → r ≡ with_entry n i f → r ≡ updated_page γ u (brought_page γ proof) a now
   unfolding updated_page brought_page
-  changed_stored u buffer n r proof a i now e f lb lp ee en ei ef er =
-      let page : n ≡ part proof 0 (page_size γ) = part_copied proof buffer n 0 (page_size γ) lb (omega arith) en in
+  changed_stored u n r proof a i now e f ee en ei ef er =
       er
-      ∙ ap₂ (λ (x : List ℕ) (j : ℕ). with_entry x j f) page ei
+      ∙ ap₂ (λ (x : List ℕ) (j : ℕ). with_entry x j f) en ei
       ∙ ap (with_entry (part proof 0 (page_size γ)) (place_of γ a)) (ef ∙ ap (updated u now) ee)
 
   -- the outcome: the stores one after the other, the memory, and the answer with its tag. The page stands at the front of the answer

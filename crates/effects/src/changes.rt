@@ -33,7 +33,7 @@ fn store_changed(page: &mut [u8], u: Update, block: u32, time: u32, proof: &[u8]
     ensures { page.new ≡ updated_page present u (brought_page present proof.now) block time }
 {
     let e = arguments::brought_entry(proof, block);
-    octets::copy(proof, 0, page, 0, PAGE_SIZE);
+    page.copy_from_slice(&proof[0..PAGE_SIZE]);
     let place = addressing::place_of(block);
     lockpage::entries::store_entry(page, place, lockpage::updates::updated(u, time, e));
 }

@@ -13,10 +13,8 @@ fn store_pages(disk: &mut [u8], groups: u32, page: &[u8])
     requires { PagesReady present disk.old groups page.now }
     ensures { disk.new ≡ stored present disk.old (blank_pages present groups) }
 {
-    let mut g = 0;
-    while g < groups {
+    for g in 0..groups {
         disk::whole::store_page(disk, g, page);
-        g += 1;
     }
 }
 

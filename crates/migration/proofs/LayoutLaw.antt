@@ -1,4 +1,4 @@
--- An old memory laid out as a present one, by two copies into zeros. Assumes nothing.
+-- An old memory laid out as a present one, in two pieces stored into zeros. Assumes nothing.
 use mathlib.Core.Path.{◌≡◌, ap, ap₂, sym, ◌∙◌}
 use mathlib.Core.List.{List, ◌++◌}
 use Prim.Native.Nat.{ℕ, ◌+◌, ◌-◌}
@@ -7,7 +7,7 @@ use lib.ListN.{length}
 use Rattle.octets.specs.Part.{part, replaced, repeated}
 use Rattle.octets.proofs.PartLaw.{part_length}
 use Rattle.octets.proofs.RepeatedLaw.{repeated_length, repeated_add}
-use Rattle.octets.proofs.ReplacedLaw.{replaced_length, replaced_front, replaced_back, replaced_all}
+use Rattle.octets.proofs.ReplacedLaw.{replaced_front, replaced_back, replaced_all}
 use Rattle.lockpage.specs.Geometry.{Geometry, Proper, widened}
 use Rattle.memory.specs.Layout.{memory_size, time_start}
 use Rattle.migration_machine.specs.Migrate.{Wider, migrated}
@@ -31,13 +31,6 @@ module _ {γ : Geometry} (σ : Proper γ) {n : ℕ} (ω : Wider γ n) where
 
     abbrev second : List ℕ
     second = part old front back
-
-    -- the buffer is as long after the first copy
-    pub begun_length : (new one : List ℕ) → new ≡ repeated (memory_size (widened γ n)) 0 → one ≡ replaced new 0 first
-        → length one ≡ memory_size (widened γ n)
-    begun_length new one zeros e =
-        let long : length new ≡ memory_size (widened γ n) = ap length zeros ∙ repeated_length (memory_size (widened γ n)) 0 in
-        ap length e ∙ replaced_length new 0 first (omega (arith, part_length old 0 front (omega arith), ω.more)) ∙ long
 
     pub laid_out : (new one two : List ℕ) → new ≡ repeated (memory_size (widened γ n)) 0 → one ≡ replaced new 0 first
         → two ≡ replaced one (time_start (widened γ n)) second → two ≡ migrated γ n old

@@ -1,5 +1,5 @@
-// The migration of an old box's memory to the present one. The contract of `migrate`, which has no precondition, fixes what it answers and
-// every byte of the buffer by the definitions of migration_machine.
+// The migration of an old box's memory to the present one. The contract of `migrate`, which has no precondition, fixes what is answered
+// and every byte of the buffer by the definitions of migration_machine.
 #![tactic(auto)]
 
 ghost use Rattle.std.specs.Prelude.{◌≡◌};
@@ -24,35 +24,25 @@ fn lay_out(old: &[u8], new: &mut [u8])
     requires { LayOutReady old.now new.old }
     ensures { new.new ≡ migrated base present.most_groups old.now }
 {
-    octets::copy(old, 0, new, 0, OLD_TIME_START);
-    octets::copy(
-        old,
-        OLD_TIME_START,
-        new,
-        layout::TIME_START,
-        layout::MEMORY_SIZE - layout::TIME_START,
-    );
+    let (front, back) = old.split_at(OLD_TIME_START);
+    octets::store_bytes(new, 0, front);
+    octets::store_bytes(new, layout::TIME_START, back);
 }
 
-// Migrates an old memory into the buffer. Where it is refused, no byte is changed. The old memory is judged by the new one, which is
+// Migrates an old memory into the buffer; where it is refused, no byte is changed. The old memory is judged by the new one, which is
 // valid if and only if the old one is, but for its groups.
+#[tactic(auto, using(crate::proofs::AskedLaw::old_size, crate::proofs::AskedLaw::old_groups, crate::proofs::AskedLaw::new_groups, crate::proofs::AskedLaw::new_valid, std::proofs::lemmas::Bool::Decides::nat_tests), unfolding(migration_machine::specs::Migrate::migrate, migration_machine::specs::Migrate::migrate_questions, machine::specs::Question::first_no, octets::specs::Part::repeated))]
 pub fn migrate(old: &[u8], memory: &mut [u8]) -> Result<(), Refusal>
     ensures { migration_at (number_of result) memory.new ≡ migration base present.most_groups old.now memory.old }
 {
-    if old.len() != OLD_MEMORY_SIZE {
-        return Err(Refusal::MemoryInvalid);
-    }
-    if memory.len() != layout::MEMORY_SIZE {
+    if old.len() != OLD_MEMORY_SIZE || memory.len() != layout::MEMORY_SIZE {
         return Err(Refusal::MemoryInvalid);
     }
     let mut new = [0u8; layout::MEMORY_SIZE];
     lay_out(old, &mut new);
-    if OLD_MOST_GROUPS < memory::groups(&new) {
+    if OLD_MOST_GROUPS < memory::groups(&new) || !validity::valid(&new) {
         return Err(Refusal::MemoryInvalid);
     }
-    if !validity::valid(&new) {
-        return Err(Refusal::MemoryInvalid);
-    }
-    octets::copy(&new, 0, memory, 0, layout::MEMORY_SIZE);
+    memory.copy_from_slice(&new);
     Ok(())
 }

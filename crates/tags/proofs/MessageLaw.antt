@@ -6,7 +6,6 @@ use native.Mathlib.Omega.{arith}
 use lib.ListN.{length, length-append}
 use Rattle.octets.specs.Part.{part, replaced}
 use Rattle.octets.specs.Number.{bytes, with_number}
-use Rattle.octets.proofs.PartLaw.{part_all}
 use Rattle.octets.proofs.ReplacedLaw.{replaced_all, replaced_next, replaced_end}
 use Rattle.octets.proofs.NumberLaw.{bytes_length}
 use Rattle.lockpage.specs.Geometry.{Geometry, Proper}
@@ -23,7 +22,7 @@ module _ {γ : Geometry} (σ : Proper γ) where
   pub message_built : (m page out a b c r : List ℕ) (g n : ℕ) → length m ≡ memory_size γ → length page ≡ page_size γ → length out ≡ message_size γ
       → a ≡ replaced out 0 (salt m) → b ≡ with_number a salt_size group_number_size g → n ≡ count m g
       → c ≡ with_number b (salt_size + group_number_size) count_size n
-      → r ≡ replaced c (salt_size + group_number_size + count_size) (part page 0 (page_size γ)) → r ≡ tag_message γ m g page
+      → r ≡ replaced c (salt_size + group_number_size + count_size) page → r ≡ tag_message γ m g page
   unfolding with_number tag_message
   message_built m page out a b c r g n lm lp lo ea eb en ec er =
       let s = salt m in
@@ -40,7 +39,7 @@ module _ {γ : Geometry} (σ : Proper γ) where
       (ec ∙ ap (λ (k : ℕ). replaced b (salt_size + group_number_size) (bytes count_size k)) en) in
       let last : r ≡ replaced out 0 (((s ++ x) ++ y) ++ page) =
       replaced_next out c ((s ++ x) ++ y) page r (salt_size + group_number_size + count_size) third (sym lsxy) (omega arith)
-      (er ∙ ap (replaced c (salt_size + group_number_size + count_size)) (part_all page (page_size γ) (omega arith))) in
+      er in
       last
       ∙ replaced_all out (((s ++ x) ++ y) ++ page) (length-append ((s ++ x) ++ y) page ∙ omega arith)
       ∙ append_assoc (s ++ x) y page
@@ -48,12 +47,11 @@ module _ {γ : Geometry} (σ : Proper γ) where
 
   -- the tag of the page at the front of an answer, copied behind it
   pub tag_stored : (m answer own r : List ℕ) (g : ℕ) → length answer ≡ answer_size γ → own ≡ tag γ m g (part answer 0 (page_size γ))
-      → r ≡ replaced answer (page_size γ) (part own 0 tag_size) → r ≡ tagged γ m g (part answer 0 (page_size γ))
+      → r ≡ replaced answer (page_size γ) own → r ≡ tagged γ m g (part answer 0 (page_size γ))
   unfolding tagged
   tag_stored m answer own r g l e er =
       let t = tag γ m g (part answer 0 (page_size γ)) in
       let size : length t ≡ tag_size = tag_length σ m g (part answer 0 (page_size γ)) in
       er
-      ∙ ap (λ (x : List ℕ). replaced answer (page_size γ) (part x 0 tag_size)) e
-      ∙ ap (replaced answer (page_size γ)) (part_all t tag_size (omega arith))
+      ∙ ap (replaced answer (page_size γ)) e
       ∙ replaced_end answer (page_size γ) t (omega arith)

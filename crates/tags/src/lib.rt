@@ -35,13 +35,7 @@ fn store_message(out: &mut [u8], memory: &[u8], group: u32, page: &[u8])
     octets::store_u64(out, SALT_SIZE, group as u64);
     let count = memory::count(memory, group);
     octets::store_u32(out, SALT_SIZE + GROUP_NUMBER_SIZE, count);
-    octets::copy(
-        page,
-        0,
-        out,
-        SALT_SIZE + GROUP_NUMBER_SIZE + COUNT_SIZE,
-        PAGE_SIZE,
-    );
+    octets::store_bytes(out, SALT_SIZE + GROUP_NUMBER_SIZE + COUNT_SIZE, page);
 }
 
 // Fills out with the tag of a group's page.
@@ -72,5 +66,5 @@ pub fn store_tag(memory: &[u8], group: u32, answer: &mut [u8])
 {
     let mut own = [0u8; TAG_SIZE];
     tag(memory, group, &answer[0..PAGE_SIZE], &mut own);
-    octets::copy(&own, 0, answer, PAGE_SIZE, TAG_SIZE);
+    octets::store_bytes(answer, PAGE_SIZE, &own);
 }

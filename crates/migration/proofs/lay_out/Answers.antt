@@ -1,0 +1,27 @@
+-- The old memory in two pieces, and zeros between them. Assumes nothing.
+use Rattle.std.proofs.Common.{ap, sym, arith, length, ◌∙◌}
+use Rattle.octets.specs.Part.{part, replaced}
+use Rattle.octets.proofs.RepeatedLaw.{repeated_length}
+use Rattle.octets.proofs.PartLaw.{part_rest}
+use Rattle.lockpage.specs.Geometry.{present}
+use Rattle.lockpage.proofs.GeometryLaw.{base_proper}
+use Rattle.memory.specs.Layout.{memory_size}
+use Rattle.migration_machine.proofs.Theorems.{present_wider}
+use Rattle.migration.proofs.LayoutLaw.{laid_out}
+use Rattle.migration.proofs.lay_out.Goals as goal
+
+pub store_bytes-requires : goal.store_bytes-requires
+store_bytes-requires c =
+    omega (arith, c.split_at.ensures.front_len, ap length c.requires.new_zeros, repeated_length (memory_size present) 0)
+
+pub store_bytes-requires-2 : goal.store_bytes-requires-2
+store_bytes-requires-2 c =
+    omega (arith, c.split_at.ensures.back_len, c.requires.old_size, c.store_bytes.auto.s, ap length c.requires.new_zeros, repeated_length (memory_size present) 0)
+
+pub returns : goal.returns
+unfolding part
+returns c =
+    let back = c.split_at.ensures.back ∙ sym (part_rest c.args.old.now 96 520 (omega (arith, c.requires.old_size))) in
+    laid_out base_proper present_wider _ c.requires.old_size _ _ _ c.requires.new_zeros
+    (c.store_bytes.ensures ∙ ap (replaced c.args.new.now 0) c.split_at.ensures.front)
+    (c.store_bytes-2.ensures ∙ ap (replaced c.store_bytes.new.s 288) back)
