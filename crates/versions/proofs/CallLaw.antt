@@ -90,13 +90,13 @@ module _ {γ : Geometry} (σ : Proper γ) (ρ : Range) (state : List ℕ) (s : B
         pub put_stored : (m : ℕ) → m ≡ (put γ ρ (versions_in state) s part now content).number → m ≡ 0 → (block : ℕ)
             → block ≡ next_for γ ρ s now (versions_in state) → (after : List ℕ) (t : Box)
             → Leaves γ (put γ ρ (versions_in state) s part now content) after t
-            → called_of m block after t ≡ put_bytes γ ρ state s part now content
+            → called_of 0 block after t ≡ put_bytes γ ρ state s part now content
         unfolding put_bytes handed
         put_stored m e z block is_Block after t h =
             let r = put γ ρ (versions_in state) s part now content in
             let a : r.number ≡ 0 = sym e ∙ z in
             rw (put_bytes, is_store, handed, eq-eqb r.number 0 a)
-            (ap (λ (k : ℕ). called_of k block after t) e
+            (ap (λ (k : ℕ). called_of k block after t) (sym a)
             ∙ ap (λ (k : ℕ). called_of r.number k after t) (is_Block ∙ sym (put_does σ ρ (versions_in state) s part now content a).answered)
             ∙ ap (λ (l : List ℕ). called_of r.number r.block l t) h.state_is
             ∙ ap (λ (x : Box). called_of r.number r.block (state_bytes γ r.versions) x) h.box_is)
@@ -128,9 +128,11 @@ module _ {γ : Geometry} (σ : Proper γ) (ρ : Range) (state : List ℕ) (s : B
         has_records : length (versions_in state).records ≡ 0 → ⊥
         has_records z = some (sym (count_read γ state) ∙ z)
 
-        pub flush_no_box : (m block : ℕ) → Allocated γ ρ state s now m block → (m ≡ 0 → ⊥) → called_of m 0 state s ≡ flush_bytes γ ρ state s now
-        flush_no_box m block a d =
+        pub flush_no_box : (m block : ℕ) → Allocated γ ρ state s now m block → (m ≡ 0 → ⊥) → (k : ℕ) → k ≡ m
+            → called_of k 0 state s ≡ flush_bytes γ ρ state s now
+        flush_no_box m block a d k e =
             let number = flush_asked_no σ ρ (versions_in state) s now (sound γ state is_state) has_records m (sym a.number_is) d in
-            sym (handed_none σ state s (flush γ ρ (versions_in state) s now) m number d
+            ap (λ (i : ℕ). called_of i 0 state s) e
+            ∙ sym (handed_none σ state s (flush γ ρ (versions_in state) s now) m number d
             (flush_unaltered γ ρ (versions_in state) s now (λ z. d (sym number ∙ z))))
             ∙ sym flush_handed

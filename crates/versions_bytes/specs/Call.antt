@@ -1,7 +1,9 @@
 -- A call of the version store as its caller makes it, the state as bytes, after document 02, Q-3: what it answers, and what it leaves in
 -- each buffer. Assumes nothing: these are definitions.
-use Rattle.std.specs.Prelude.{true, false, List, [], ◌∷◌, ℕ, length, eqb, leb}
+use Rattle.std.specs.Prelude.{true, false, Option, Ok, Err, List, [], ◌∷◌, ℕ, length, eqb, leb}
+use Rattle.std.specs.Prelude.{Result as Answer}
 use Rattle.lockpage.specs.Geometry.{Geometry}
+use Rattle.machine.specs.declared.Refusal.{Refusal}
 use Rattle.machine.specs.Command.{Box}
 use Rattle.machine.specs.Question.{Question, Put, first_no}
 use Rattle.machine.specs.Call.{ByteSlice, box_at}
@@ -35,6 +37,11 @@ pub record Located : Type 0 where
 
 abbrev pub located_of : ℕ → ℕ → Located
 located_of number block = record { number = number; block = block }
+
+-- the block that a lookup answers, as a number: none is FF FF FF FF, and beside a refusal's number stands 0
+abbrev pub block_or_0 : Answer (Option ℕ) Refusal → ℕ
+block_or_0 (Ok block) = block_number block
+block_or_0 (Err _) = 0
 
 module _ (γ : Geometry) where
   -- "a lock R, named once at its start": 1, of the buffer for the state; then 10

@@ -16,19 +16,10 @@ use Rattle.machine.specs.declared.Kind.TheVariants.{Change}
 use Rattle.machine.specs.Question.{Question, Put, first_no, content_length}
 use Rattle.machine.proofs.CaseLaw.{same_or_not}
 use Rattle.machine.proofs.QuestionLaw.{says_no, goes_on}
-use Rattle.versions_machine.specs.Versions.{no_block, block_named}
 use Rattle.versions_machine.specs.Plan.{Order, writing, unfreezing, unfreezes}
 use Rattle.versions_machine.specs.Foresight.{questions_left, entries_after, foreseen}
 use Rattle.versions_machine.proofs.ForesightLaw.{foreseen_on, foreseen_stops}
-use Rattle.versions_forecast.specs.Stages.{last_questions, entries_past, raised, raised_for, counts_past}
-
--- ---- the block named
-
-pub named_none : (n : ℕ) → n ≡ no_block → block_named n ≡ None
-named_none n e = ap (λ (b : Bool). elim b [ true ↦ None | false ↦ Some n ]) (eq-eqb n no_block e)
-
-pub named_some : (n : ℕ) → (n ≡ no_block → ⊥) → block_named n ≡ Some n
-named_some n d = ap (λ (b : Bool). elim b [ true ↦ None | false ↦ Some n ]) (ne_eqb n no_block d)
+use Rattle.versions_forecast.specs.Stages.{last_questions, entries_for, entries_past, raised, raised_for, counts_past}
 
 -- ---- a command by itself, in a box with so many groups, these counts and these entries
 
@@ -64,14 +55,14 @@ module _ (γ : Geometry) (G : ℕ) (counts : ℕ → ℕ) (entries : ℕ → Ent
 
   -- ---- the unfreeze of the version replaced, if there is one
 
-  pub unfreeze_none : (n now : ℕ) → n ≡ no_block → 0 ≡ foreseen γ G counts entries (unfreezes (block_named n) now)
+  pub unfreeze_none : (now : ℕ) → 0 ≡ foreseen γ G counts entries (unfreezes None now)
   unfolding foreseen unfreezes
-  unfreeze_none n now e = ap (λ (x : Option ℕ). foreseen γ G counts entries (unfreezes x now)) (sym (named_none n e))
+  unfreeze_none now = refl
 
-  pub unfreeze_some : (n now r : ℕ) → (n ≡ no_block → ⊥) → r ≡ foreseen γ G counts entries (unfreezing n now ∷ [])
-      → r ≡ foreseen γ G counts entries (unfreezes (block_named n) now)
+  pub unfreeze_some : (block now r : ℕ) → r ≡ foreseen γ G counts entries (unfreezing block now ∷ [])
+      → r ≡ foreseen γ G counts entries (unfreezes (Some block) now)
   unfolding unfreezes
-  unfreeze_some n now r d er = er ∙ ap (λ (x : Option ℕ). foreseen γ G counts entries (unfreezes x now)) (sym (named_some n d))
+  unfreeze_some block now r e = e
 
 -- ---- the counts and the entries after both
 
@@ -88,18 +79,8 @@ module _ (entries : ℕ → Entry) (block now lock : ℕ) where
   entry_unwritten a d =
       ap (λ (b : Bool). elim b [ true ↦ updated (writing block now lock []).update now (entries a) | false ↦ entries a ]) (ne_eqb a block (λ e. d (sym e)))
 
-  pub entry_before_log : (replaced a : ℕ) → (block ≡ a → ⊥) → (a ≡ no_block → ⊥)
-      → entries_after entries (unfreezing replaced now) a ≡ entries_past entries (writing block now lock [] ∷ unfreezes (block_named replaced) now) a
-  unfolding unfreezes
-  entry_before_log replaced a d real =
-      same_or_not replaced no_block
-      (λ e.
-      ap (λ (b : Bool). elim b [ true ↦ updated Unfreeze now (entries a) | false ↦ entries a ]) (ne_eqb a replaced (λ x. real (x ∙ e)))
-      ∙ sym (entry_unwritten a d)
-      ∙ ap (past a) (sym (named_none replaced e)))
-      (λ n.
-      ap (λ (i : Entry). elim (eqb a replaced) [ true ↦ updated Unfreeze now i | false ↦ i ]) (sym (entry_unwritten a d))
-      ∙ ap (past a) (sym (named_some replaced n)))
-    where
-      past : ℕ → Option ℕ → Entry
-      past a x = entries_past entries (writing block now lock [] ∷ unfreezes x now) a
+  pub entry_before_log : (replaced : Option ℕ) (a : ℕ) → (block ≡ a → ⊥)
+      → entries_for entries Unfreeze replaced now a ≡ entries_past entries (writing block now lock [] ∷ unfreezes replaced now) a
+  unfolding entries_for unfreezes
+  entry_before_log None a d = sym (entry_unwritten a d)
+  entry_before_log (Some old) a d = ap (λ (i : Entry). elim (eqb a old) [ true ↦ updated Unfreeze now i | false ↦ i ]) (sym (entry_unwritten a d))

@@ -1,11 +1,11 @@
 -- The write of the version: its block is free and its lock fits, so that its content's length and its group's count decide. Assumes
 -- nothing.
-use mathlib.Core.Path.{◌≡◌, refl, ap, sym, ◌∙◌}
+use mathlib.Core.Path.{◌≡◌, ap, sym, ◌∙◌}
 use mathlib.Core.Bool.{Bool, true, false}
 use mathlib.Mathlib.Data.Bool.Basic.{and_elim_right}
 use mathlib.Core.List.{List, [], ◌∷◌}
-use Prim.Native.Nat.{ℕ, ◌≤◌, ◌<◌}
-use borrow.Author.Tests.{eq-eqb, ne_eqb, lt-ltb, le-ltb}
+use Prim.Native.Nat.{ℕ}
+use borrow.Author.Tests.{lt-ltb}
 use lib.ListN.{length}
 use lib.Dec.{eqb, leb, ltb}
 use Rattle.lockpage.specs.Geometry.{Geometry}
@@ -21,36 +21,12 @@ use Rattle.memory.specs.Memory.{groups}
 use Rattle.validity.specs.Valid.{count_limit}
 use Rattle.machine.specs.Command.{Box}
 use Rattle.machine.specs.Tag.{current_entry}
-use Rattle.machine.specs.Question.{Question, Put, first_no}
-use Rattle.machine.proofs.QuestionLaw.{says_no, goes_on}
+use Rattle.machine.specs.Question.{Put, first_no}
 use Rattle.versions_machine.specs.Versions.{is_lock}
 use Rattle.versions_machine.specs.Plan.{writing}
 use Rattle.versions_machine.specs.Foresight.{questions_left}
 use Rattle.versions_machine.proofs.AllocationLaw.{available_free}
 use Rattle.versions_forecast.specs.Ready.{ForecastReady}
-
--- ---- the two questions, in order
-
--- size is the content's length, n the count
-module _ (size wanted n : ℕ) where
-  abbrev from_8 : List Question
-  from_8 = Put 8 (ltb n count_limit) ∷ []
-
-  pub no_6 : (size ≡ wanted → ⊥) → 6 ≡ first_no (Put 6 (eqb size wanted) ∷ from_8)
-  no_6 d = says_no 6 (Put 6 (eqb size wanted)) from_8 false refl (sym (ne_eqb size wanted d)) refl
-
-  module _ (h : size ≡ wanted) where
-    after_6 : first_no from_8 ≡ first_no (Put 6 (eqb size wanted) ∷ from_8)
-    after_6 = goes_on (Put 6 (eqb size wanted)) from_8 true (sym (eq-eqb size wanted h)) refl
-
-    pub no_8 : count_limit ≤ n → 8 ≡ first_no (Put 6 (eqb size wanted) ∷ from_8)
-    no_8 l = says_no 8 (Put 8 (ltb n count_limit)) [] false refl (sym (le-ltb n count_limit l)) refl ∙ after_6
-
-    pub none_no : n < count_limit → 0 ≡ first_no (Put 6 (eqb size wanted) ∷ from_8)
-    unfolding first_no
-    none_no l = goes_on (Put 8 (ltb n count_limit)) [] true (sym (lt-ltb n count_limit l)) refl ∙ after_6
-
--- ---- the others have yes
 
 pub lock_within : (lock now : ℕ) (e : Entry) → is_lock lock ≡ true → within_limit (updated (Write lock) now e) ≡ true
 lock_within lock now e h =

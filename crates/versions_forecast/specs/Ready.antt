@@ -1,5 +1,5 @@
 -- What a forecast takes for granted. Assumes nothing: these are definitions.
-use Rattle.std.specs.Prelude.{◌≡◌, true, ℕ, ◌≤◌, ◌<◌, length, Some}
+use Rattle.std.specs.Prelude.{◌≡◌, true, ℕ, ◌≤◌, ◌<◌, length, Option, Some}
 use Rattle.lockpage.specs.Geometry.{Geometry}
 use Rattle.lockpage.specs.declared.Update.{Update}
 use Rattle.lockpage.specs.declared.Update.TheVariants.{Unfreeze}
@@ -11,7 +11,7 @@ use Rattle.memory.specs.Memory.{last_time, groups}
 use Rattle.machine.specs.Command.{Box}
 use Rattle.machine.specs.Tag.{current_entry}
 use Rattle.machine.specs.Claims.{ValidBox}
-use Rattle.versions_machine.specs.Versions.{block_named, is_lock}
+use Rattle.versions_machine.specs.Versions.{is_lock}
 use Rattle.versions_machine.specs.Allocation.{is_available}
 
 -- γ is the box's geometry
@@ -26,11 +26,11 @@ module _ (γ : Geometry) where
     pub available : is_available γ s now reserve block ≡ true
 
   -- block a is one of the box's, and if it is the one that u changes, the word stored is within its limit
-  pub record EntryReady (s : Box) (u : Update) (block now a : ℕ) : Type 0 where
+  pub record EntryReady (s : Box) (u : Update) (block : Option ℕ) (now a : ℕ) : Type 0 where
     pub memory_size_is : length s.memory ≡ memory_size γ
     pub group : HasGroup γ s.disk (group_of γ a)
     pub early : now ≤ latest_time
-    pub within : a ≡ block → within_limit (updated u now (current_entry γ s a)) ≡ true
+    pub within : block ≡ Some a → within_limit (updated u now (current_entry γ s a)) ≡ true
 
   -- what the second command's questions ask for
   pub record UnfreezeReady (s : Box) (now lock : ℕ) : Type 0 where
@@ -39,8 +39,8 @@ module _ (γ : Geometry) where
     pub lock_fits : is_lock lock ≡ true
 
   -- what the third's do: the reserve is not the block written, and if it is the one unfrozen, its expiry was within its limit
-  pub record ReserveReady (s : Box) (block now replaced reserve : ℕ) : Type 0 where
+  pub record ReserveReady (s : Box) (block now : ℕ) (replaced : Option ℕ) (reserve : ℕ) : Type 0 where
     pub valid : ValidBox γ s
     pub early : now ≤ latest_time
     pub other : block ≡ reserve → ⊥
-    pub within : block_named replaced ≡ Some reserve → within_limit (updated Unfreeze now (current_entry γ s reserve)) ≡ true
+    pub within : replaced ≡ Some reserve → within_limit (updated Unfreeze now (current_entry γ s reserve)) ≡ true

@@ -10,7 +10,7 @@ use Rattle.addressing.specs.Map.{group_of}
 use Rattle.memory.specs.Claims.{changed}
 use Rattle.validity.specs.Valid.{count_limit}
 use Rattle.machine.specs.Question.{Question, Put}
-use Rattle.versions_machine.specs.Plan.{Order}
+use Rattle.versions_machine.specs.Plan.{Order, order_of}
 use Rattle.versions_machine.specs.Foresight.{counts_after, entries_after}
 
 -- questions 8 to 10 of a command: the count is its group's, the entry its block's
@@ -22,6 +22,11 @@ last_questions count u now e =
 abbrev pub entries_past : (ℕ → Entry) → List Order → ℕ → Entry
 entries_past entries [] = entries
 entries_past entries (o ∷ os) = entries_past (entries_after entries o) os
+
+-- and after a command on a block or on none
+unfoldable pub entries_for : (ℕ → Entry) → Update → Option ℕ → ℕ → ℕ → Entry
+entries_for entries u None now = entries
+entries_for entries u (Some block) now = entries_after entries (order_of u block now [])
 
 -- γ is the box's geometry
 module _ (γ : Geometry) where

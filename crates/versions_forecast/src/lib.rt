@@ -1,5 +1,5 @@
-// The number by which one of a put's commands will be refused, before the first is given. The contracts cite versions_machine's
-// foreseen, and specs/ for the commands and what holds between them.
+// Why one of a put's commands will be refused, before the first is given. The contracts cite versions_machine's foreseen, and specs/ for
+// the commands and what holds between them.
 #![tactic(auto)]
 
 ghost use Rattle.std.specs.Prelude.{◌≡◌, true, [], ◌∷◌, ◌≤◌, ◌^◌, eqb, ltb, length};
@@ -11,39 +11,39 @@ ghost use Rattle.memory.specs.Layout.{memory_size};
 ghost use Rattle.memory.specs.Memory.{count, groups};
 ghost use Rattle.memory.specs.Ready.{HasCount};
 ghost use Rattle.validity.specs.Valid.{count_limit};
+ghost use Rattle.machine.specs.Refusal.{number_of};
 ghost use Rattle.machine.specs.Question.{Put, first_no};
 ghost use Rattle.machine.specs.Tag.{current_entry};
 ghost use Rattle.machine.specs.Call.{box_at};
-ghost use Rattle.versions_machine.specs.Versions.{block_named};
-ghost use Rattle.versions_machine.specs.Plan.{order_of, writing, unfreezes};
-ghost use Rattle.versions_machine.specs.Foresight.{entries_after, foreseen};
+ghost use Rattle.versions_machine.specs.Plan.{writing, unfreezes};
+ghost use Rattle.versions_machine.specs.Foresight.{foreseen};
 ghost use Rattle.versions_forecast.specs.Orders.{log_order, put_orders};
-ghost use Rattle.versions_forecast.specs.Stages.{last_questions, entries_past, raised, raised_for, counts_past};
+ghost use Rattle.versions_forecast.specs.Stages.{last_questions, entries_for, entries_past, raised, raised_for, counts_past};
 ghost use Rattle.versions_forecast.specs.Ready.{ForecastReady, EntryReady, UnfreezeReady, ReserveReady};
 
 use lockpage::{Entry, Update, states, updates};
-use versions_machine::NO_BLOCK;
+use machine::Refusal;
 
-// Questions 8 to 10 of a command, by its group's count and its block's entry: the number of the first that says no, or 0. All are
-// answered first: they cost a few comparisons.
-#[tactic(auto, using(crate::proofs::StageLaw::no_8, crate::proofs::StageLaw::no_9, crate::proofs::StageLaw::no_10, crate::proofs::StageLaw::none_no))]
-fn order_refusal(count: u64, e: Entry, u: Update, time: u32) -> u32
+// Questions 8 to 10 of a command, by its group's count and its block's entry: the first that says no refuses. All are answered first:
+// they cost a few comparisons.
+#[tactic(auto, unfolding(machine::specs::Question::first_no))]
+fn check_order(count: u64, e: Entry, u: Update, time: u32) -> Result<(), Refusal>
     requires { time ≤ latest_time }
-    ensures { result ≡ first_no (last_questions count u time e) }
+    ensures { number_of result ≡ first_no (last_questions count u time e) }
 {
     let unexhausted = count < validity::COUNT_LIMIT as u64;
     let allowed = updates::allowed(u, states::state(e, time));
     let within = updates::within_limit(u, time, e);
     if !unexhausted {
-        return machine::COUNT_EXHAUSTED;
+        return Err(Refusal::CountExhausted);
     }
     if !allowed {
-        return machine::STATE_WRONG;
+        return Err(Refusal::StateWrong);
     }
     if !within {
-        return machine::LIMIT_EXCEEDED;
+        return Err(Refusal::LimitExceeded);
     }
-    machine::ACCEPTED
+    Ok(())
 }
 
 // Whether a block is one of the box's.
@@ -68,100 +68,115 @@ fn count_after(memory: &[u8], block: u32, a: u32) -> u64
 }
 
 // The same after a second command too, on the block of the version replaced, if there is one.
-fn count_before_log(memory: &[u8], block: u32, replaced: u32, a: u32) -> u64
+fn count_before_log(memory: &[u8], block: u32, replaced: Option<u32>, a: u32) -> u64
     requires { HasCount present memory.now (group_of present a) }
-    ensures { result ≡ raised_for present (raised present (count memory.now) block) (block_named replaced) (group_of present a) }
+    ensures { result ≡ raised_for present (raised present (count memory.now) block) replaced (group_of present a) }
 {
     let written = count_after(memory, block, a);
-    if replaced == NO_BLOCK {
+    let Some(replaced) = replaced else {
         return written;
-    }
+    };
     if addressing::group_of(replaced) == addressing::group_of(a) {
         return written + 1;
     }
     written
 }
 
-// The entry of a after u has changed a block's.
-fn entry_after(memory: &[u8], disk: &[u8], u: Update, block: u32, time: u32, a: u32) -> Entry
+// The entry of a after u has changed a block's, or none's.
+fn entry_after(
+    memory: &[u8],
+    disk: &[u8],
+    u: Update,
+    block: Option<u32>,
+    time: u32,
+    a: u32,
+) -> Entry
     requires { EntryReady present (box_at memory.now disk.now) u block time a }
-    ensures { result ≡ entries_after (current_entry present (box_at memory.now disk.now)) (order_of u block time []) a }
+    ensures { result ≡ entries_for (current_entry present (box_at memory.now disk.now)) u block time a }
 {
     let e = current_page::entry(memory, disk, a);
-    if a == block {
+    if block == Some(a) {
         return updates::updated(u, time, e);
     }
     e
 }
 
 // The write of the version. Its block is in the box and free, and its lock fits: questions 6 and 8 are left.
-fn write_refusal(memory: &[u8], block: u32, content: &[u8]) -> u32
+#[tactic(auto, unfolding(machine::specs::Question::first_no))]
+fn check_write(memory: &[u8], block: u32, content: &[u8]) -> Result<(), Refusal>
     requires { HasCount present memory.now (group_of present block) }
-    ensures { result ≡ first_no (Put 6 (eqb (length content.now) (block_size present))
+    ensures { number_of result ≡ first_no (Put 6 (eqb (length content.now) (block_size present))
         ∷ Put 8 (ltb (count memory.now (group_of present block)) count_limit) ∷ []) }
 {
     if content.len() != addressing::BLOCK_SIZE {
-        return machine::LENGTH_WRONG;
+        return Err(Refusal::LengthWrong);
     }
-    if memory::count(memory, addressing::group_of(block)) < validity::COUNT_LIMIT {
-        return machine::ACCEPTED;
+    if memory::count(memory, addressing::group_of(block)) >= validity::COUNT_LIMIT {
+        return Err(Refusal::CountExhausted);
     }
-    machine::COUNT_EXHAUSTED
+    Ok(())
 }
 
 // The unfreeze of the version that it replaces, if there is one, after the write.
-fn unfreeze_refusal(
+fn check_unfreeze(
     memory: &[u8],
     disk: &[u8],
     block: u32,
     time: u32,
     lock: u32,
-    replaced: u32,
-) -> u32
+    replaced: Option<u32>,
+) -> Result<(), Refusal>
     requires { UnfreezeReady present (box_at memory.now disk.now) time lock }
-    ensures { result ≡ foreseen present (groups present memory.now)
+    ensures { number_of result ≡ foreseen present (groups present memory.now)
         (counts_past present (count memory.now) (writing block time lock [] ∷ []))
         (entries_past (current_entry present (box_at memory.now disk.now)) (writing block time lock [] ∷ []))
-        (unfreezes (block_named replaced) time) }
+        (unfreezes replaced time) }
 {
-    if replaced == NO_BLOCK {
-        return machine::ACCEPTED;
-    }
+    let Some(replaced) = replaced else {
+        return Ok(());
+    };
     if !is_inside(memory, replaced) {
-        return machine::ADDRESS_OUT_OF_RANGE;
+        return Err(Refusal::AddressOutOfRange);
     }
     let count = count_after(memory, block, replaced);
-    let e = entry_after(memory, disk, Update::Write(lock), block, time, replaced);
-    order_refusal(count, e, Update::Unfreeze, time)
+    let e = entry_after(
+        memory,
+        disk,
+        Update::Write(lock),
+        Some(block),
+        time,
+        replaced,
+    );
+    check_order(count, e, Update::Unfreeze, time)
 }
 
 // The write of the log block into the reserve, after both. The reserve is not the block that the version is written into, and the log
 // block has a block's length.
-fn log_refusal(
+fn check_log(
     memory: &[u8],
     disk: &[u8],
     block: u32,
     time: u32,
     lock: u32,
-    replaced: u32,
+    replaced: Option<u32>,
     reserve: u32,
-) -> u32
+) -> Result<(), Refusal>
     requires { ReserveReady present (box_at memory.now disk.now) block time replaced reserve }
-    ensures { result ≡ foreseen present (groups present memory.now)
-        (counts_past present (count memory.now) (writing block time lock [] ∷ unfreezes (block_named replaced) time))
-        (entries_past (current_entry present (box_at memory.now disk.now)) (writing block time lock [] ∷ unfreezes (block_named replaced) time))
+    ensures { number_of result ≡ foreseen present (groups present memory.now)
+        (counts_past present (count memory.now) (writing block time lock [] ∷ unfreezes replaced time))
+        (entries_past (current_entry present (box_at memory.now disk.now)) (writing block time lock [] ∷ unfreezes replaced time))
         (log_order present true reserve time lock) }
 {
     if !is_inside(memory, reserve) {
-        return machine::ADDRESS_OUT_OF_RANGE;
+        return Err(Refusal::AddressOutOfRange);
     }
     let count = count_before_log(memory, block, replaced, reserve);
     let e = entry_after(memory, disk, Update::Unfreeze, replaced, time, reserve);
-    order_refusal(count, e, Update::Write(lock), time)
+    check_order(count, e, Update::Write(lock), time)
 }
 
-// The number by which one of a put's commands will be refused, the first in their order, or 0. `replaced` is the block of the version
-// that it replaces, or NO_BLOCK; `due` says whether its log block is due.
+// Why one of a put's commands will be refused, the first in their order. `replaced` is the block of the version that it replaces, if
+// there is one; `due` says whether its log block is due.
 pub fn forecast(
     memory: &[u8],
     disk: &[u8],
@@ -169,25 +184,19 @@ pub fn forecast(
     time: u32,
     lock: u32,
     content: &[u8],
-    replaced: u32,
+    replaced: Option<u32>,
     due: bool,
     reserve: u32,
-) -> u32
+) -> Result<(), Refusal>
     requires { ForecastReady present (box_at memory.now disk.now) block time lock reserve }
-    ensures { result ≡ foreseen present (groups present memory.now) (count memory.now)
+    ensures { number_of result ≡ foreseen present (groups present memory.now) (count memory.now)
         (current_entry present (box_at memory.now disk.now))
-        (put_orders present block time lock content.now (block_named replaced) due reserve) }
+        (put_orders present block time lock content.now replaced due reserve) }
 {
-    let first = write_refusal(memory, block, content);
-    if first != machine::ACCEPTED {
-        return first;
-    }
-    let second = unfreeze_refusal(memory, disk, block, time, lock, replaced);
-    if second != machine::ACCEPTED {
-        return second;
-    }
+    check_write(memory, block, content)?;
+    check_unfreeze(memory, disk, block, time, lock, replaced)?;
     if !due {
-        return machine::ACCEPTED;
+        return Ok(());
     }
-    log_refusal(memory, disk, block, time, lock, replaced, reserve)
+    check_log(memory, disk, block, time, lock, replaced, reserve)
 }

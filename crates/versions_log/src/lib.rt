@@ -17,7 +17,7 @@ pub fn fill_log(state: &[u8], pointer: u32, out: &mut [u8])
     ensures { out.new ≡ log_block present (versions_in state.now).records pointer }
 {
     let last = layout::RECORDS_SIZE;
-    octets::copy(state, layout::RECORDS_START, out, 0, last);
+    octets::store_bytes(out, 0, &state[layout::RECORDS_START..layout::STATE_SIZE]);
     octets::fill(out, last, layout::RECORD_SIZE, layout::UNUSED);
     octets::store_u64(out, layout::POINTER_START, pointer as u64);
 }
@@ -28,7 +28,7 @@ pub fn fill_full_log(state: &[u8], part: u32, block: u32, pointer: u32, out: &mu
     ensures { out.new ≡ log_block present (entered (versions_in state.now) part block).records pointer }
 {
     let last = layout::RECORDS_SIZE;
-    octets::copy(state, layout::RECORDS_START, out, 0, last);
+    octets::store_bytes(out, 0, &state[layout::RECORDS_START..layout::STATE_SIZE]);
     octets::store_u32(out, last, part);
     octets::store_u32(out, last + layout::RECORD_FIELD, block);
     octets::store_u64(out, layout::POINTER_START, pointer as u64);

@@ -1,7 +1,9 @@
 -- The questions that are put to the box, one by one as the code asks them. Assumes nothing.
-use mathlib.Core.Path.{◌≡◌, refl, ap, sym, ◌∙◌}
+use mathlib.Core.Path.{◌≡◌, refl, ap, sym, subst, ◌∙◌}
 use mathlib.Core.Bool.{Bool, true, false, not}
 use mathlib.Core.List.{List, [], ◌∷◌}
+use Rattle.std.specs.Prelude.{Option, Some, None, Result}
+use Rattle.std.specs.Option.{ok_or}
 use Prim.Native.Nat.{ℕ}
 use native.Mathlib.Omega.{arith}
 use borrow.Author.Tests.{eqb-true}
@@ -9,12 +11,16 @@ use lib.ListN.{length}
 use Rattle.lockpage.specs.Geometry.{Geometry, Proper}
 use Rattle.addressing.specs.Map.{disk_size}
 use Rattle.memory.specs.Memory.{groups}
+use Rattle.machine.specs.declared.Refusal.{Refusal}
+use Rattle.machine.specs.declared.Refusal.TheVariants.{TooFewFree}
+use Rattle.machine.specs.Refusal.{number_of, answered_or_0}
 use Rattle.machine.specs.Command.{Box}
 use Rattle.machine.specs.Question.{Question, Put, question1, question2, question4, first_no, AllYes}
 use Rattle.machine.specs.Claims.{ValidBox}
 use Rattle.machine.proofs.QuestionLaw.{numbered_to, accepted_yes, passes_on, ends, says_no, goes_on}
 use Rattle.versions_machine.specs.Versions.{Range}
 use Rattle.versions_machine.specs.Allocation.{next_available, two_available}
+use Rattle.versions_search.specs.Ready.{next_of_two}
 use Rattle.versions_state.specs.State.{versions_in}
 use Rattle.versions_steps.specs.Ready.{Allocated}
 
@@ -53,7 +59,7 @@ module _ {γ : Geometry} (σ : Proper γ) where
       is_two : two ≡ two_available γ ρ s now (versions_in state).reserve
       is_two = t ∙ ap (two_available γ ρ s now) is-reserve
 
-      pub too_few : (r b : ℕ) → not two ≡ true → r ≡ 14 → b ≡ 0 → Allocated γ ρ state s now r b
+      too_few : (r b : ℕ) → not two ≡ true → r ≡ 14 → b ≡ 0 → Allocated γ ρ state s now r b
       unfolding last
       too_few r b f same none =
           record {
@@ -68,7 +74,7 @@ module _ {γ : Geometry} (σ : Proper γ) where
           fourteen : ◌≡◌ {A = ℕ} 14 0 → ⊥
           fourteen x = omega arith
 
-      pub enough : (taken b : ℕ) → not two ≡ false → taken ≡ (versions_in state).taken → b ≡ next_available γ ρ s now reserve taken
+      enough : (taken b : ℕ) → not two ≡ false → taken ≡ (versions_in state).taken → b ≡ next_available γ ρ s now reserve taken
           → Allocated γ ρ state s now 0 b
       unfolding first_no last
       enough taken b f is-taken found =
@@ -83,3 +89,24 @@ module _ {γ : Geometry} (σ : Proper γ) where
                 ∙ ap (λ (r : ℕ). next_available γ ρ s now r taken) is-reserve
                 ∙ ap (next_available γ ρ s now (versions_in state).reserve) is-taken;
           }
+
+    -- as the search for two blocks answers
+    module _ (z : n ≡ 0) (reserve : ℕ) (is-reserve : reserve ≡ (versions_in state).reserve) (taken : ℕ) (is-taken : taken ≡ (versions_in state).taken)
+        (found : Option ℕ) (f : found ≡ next_of_two γ ρ s now reserve taken) where
+      pub answered : (a : Result ℕ Refusal) → a ≡ ok_or found TooFewFree → Allocated γ ρ state s now (number_of a) (answered_or_0 a)
+      answered a e = go (two_available γ ρ s now reserve) refl
+        where
+          as_found : (two : Bool) → two_available γ ρ s now reserve ≡ two
+              → a ≡ ok_or (elim two [ true ↦ Some (next_available γ ρ s now reserve taken) | false ↦ None ]) TooFewFree
+          as_found two t =
+              e
+              ∙ ap (λ (o : Option ℕ). ok_or o TooFewFree)
+              (f ∙ ap (λ (b : Bool). elim b [ true ↦ Some (next_available γ ρ s now reserve taken) | false ↦ None ]) t)
+
+          go : (two : Bool) → two_available γ ρ s now reserve ≡ two → Allocated γ ρ state s now (number_of a) (answered_or_0 a)
+          go true t =
+              subst (λ (x : Result ℕ Refusal). Allocated γ ρ state s now (number_of x) (answered_or_0 x)) (sym (as_found true t))
+              (enough z reserve is-reserve true (sym t) taken (next_available γ ρ s now reserve taken) refl is-taken refl)
+          go false t =
+              subst (λ (x : Result ℕ Refusal). Allocated γ ρ state s now (number_of x) (answered_or_0 x)) (sym (as_found false t))
+              (too_few z reserve is-reserve false (sym t) 14 0 refl refl refl)

@@ -5,7 +5,7 @@ use mathlib.Core.List.{List, [], ◌∷◌, ◌++◌}
 use Rattle.std.specs.Prelude.{Option}
 use Prim.Native.Nat.{ℕ, ◌+◌, ◌≤◌, ◌<◌}
 use native.Mathlib.Omega.{arith}
-use borrow.Author.Tests.{eq-eqb, ne_eqb, leb-true, le-leb}
+use borrow.Author.Tests.{eq-eqb, ne_eqb, leb-true}
 use lib.Dec.{eqb}
 use lib.ListN.{length, length-append}
 use Rattle.lockpage.specs.Geometry.{Geometry, Proper}
@@ -14,7 +14,7 @@ use Rattle.machine.specs.Command.{Box}
 use Rattle.machine.specs.Tag.{current_entry}
 use Rattle.machine.specs.Claims.{ByteBox}
 use Rattle.machine.proofs.CaseLaw.{same_or_not}
-use Rattle.versions_machine.specs.Versions.{Range, block_number, block_named, record_of, entered}
+use Rattle.versions_machine.specs.Versions.{Range, record_of, entered}
 use Rattle.versions_machine.specs.Log.{records_per_block, is_full}
 use Rattle.versions_machine.specs.Allocation.{whole_box, next_for}
 use Rattle.versions_machine.specs.Plan.{Order}
@@ -25,17 +25,9 @@ use Rattle.versions_forecast.specs.Orders.{put_orders}
 use Rattle.versions_forecast.specs.Ready.{ForecastReady}
 use Rattle.versions_forecast.proofs.CallLaw.{put_ready, put_number}
 use Rattle.versions_state.specs.Layout.{most_records}
-use Rattle.versions_state.specs.State.{newest_in, record_count, versions_in}
-use Rattle.versions_state.proofs.ReadLaw.{newest_number_lem}
+use Rattle.versions_state.specs.State.{record_count, versions_in}
 use Rattle.versions_state.proofs.ValidLaw.{facts, count_read}
 use Rattle.versions_steps.specs.Ready.{PutReady}
-
--- a part's newest block, by its number
-pub newest_named : (state : List ℕ) (part : ℕ) → part ≤ last_part
-    → block_named (block_number ((versions_in state).newest part)) ≡ (versions_in state).newest part
-unfolding versions_in newest_in
-newest_named state part p =
-    ap block_named (newest_number_lem state part p) ∙ sym (rw (newest_in, le-leb part last_part p))
 
 module _ {γ : Geometry} (σ : Proper γ) where
   -- a record is the one that fills a log block where the state has room for no more
@@ -68,10 +60,10 @@ module _ {γ : Geometry} (σ : Proper γ) where
     unfolding put_questions ρ
     is_part = leb-true part last_part (put_yes σ ρ (versions_in state) s part now ready.asked).0
 
-    pub forecast_is : ByteBox s → (content : List ℕ) (replaced : ℕ) → replaced ≡ block_number ((versions_in state).newest part) → (due : Bool)
+    pub forecast_is : ByteBox s → (content : List ℕ) (replaced : Option ℕ) → replaced ≡ (versions_in state).newest part → (due : Bool)
         → due ≡ eqb (record_count state) (most_records γ) → (r : ℕ)
         → r ≡ foreseen γ (groups γ s.memory) (count s.memory) (current_entry γ s)
-        (put_orders γ block now lock content (block_named replaced) due reserve)
+        (put_orders γ block now lock content replaced due reserve)
         → r ≡ (put γ (whole_box γ (groups γ s.memory)) (versions_in state) s part now content).number
     unfolding ρ
     forecast_is bytes content replaced is-replaced due is-due r e =
@@ -79,11 +71,10 @@ module _ {γ : Geometry} (σ : Proper γ) where
         let b = next_for γ ρ s now ν in
         let number : List Order → ℕ = foreseen γ (groups γ s.memory) (count s.memory) (current_entry γ s) in
         let full = is-due ∙ full_is state part b (facts γ state ready.valid).few in
-        let named = ap block_named is-replaced ∙ newest_named state part is_part in
         e
-        ∙ ap (λ (x : ℕ). number (put_orders γ x now lock content (block_named replaced) due reserve)) ready.block_is
-        ∙ ap (λ (x : ℕ). number (put_orders γ b now x content (block_named replaced) due reserve)) is-lock
-        ∙ ap (λ (x : Option ℕ). number (put_orders γ b now ν.lock content x due reserve)) named
+        ∙ ap (λ (x : ℕ). number (put_orders γ x now lock content replaced due reserve)) ready.block_is
+        ∙ ap (λ (x : ℕ). number (put_orders γ b now x content replaced due reserve)) is-lock
+        ∙ ap (λ (x : Option ℕ). number (put_orders γ b now ν.lock content x due reserve)) is-replaced
         ∙ ap (λ (x : Bool). number (put_orders γ b now ν.lock content (ν.newest part) x reserve)) full
         ∙ ap (λ (x : ℕ). number (put_orders γ b now ν.lock content (ν.newest part) (is_full γ (entered ν part b)) x)) is-reserve
         ∙ sym (put_number σ ρ ν s part now content bytes ready.asked)

@@ -2,9 +2,10 @@
 use mathlib.Core.Path.{◌≡◌, refl, ap, sym, subst, ◌∙◌}
 use mathlib.Mathlib.Data.Bool.Basic.{and_elim_left, and_elim_right}
 use mathlib.Core.List.{List, [], ◌∷◌}
+use Rattle.std.specs.Prelude.{Option, Some, None}
 use Prim.Native.Nat.{ℕ}
 use native.Mathlib.Omega.{arith}
-use borrow.Author.Tests.{eq-eqb, ne_eqb, eqb-true, leb-true}
+use borrow.Author.Tests.{eqb-true, leb-true}
 use lib.ListN.{length}
 use lib.Dec.{leb}
 use Rattle.lockpage.specs.Geometry.{Geometry, Proper}
@@ -16,7 +17,7 @@ use Rattle.machine.specs.Question.{first_no}
 use Rattle.machine.specs.Step.{step}
 use Rattle.machine.proofs.CaseLaw.{same_or_not}
 use Rattle.machine.proofs.QuestionLaw.{numbered_to, accepted_yes}
-use Rattle.versions_machine.specs.Versions.{Range, no_block, block_named, Versions, entered, logged}
+use Rattle.versions_machine.specs.Versions.{Range, Versions, entered, logged}
 use Rattle.versions_machine.specs.Log.{log_block}
 use Rattle.versions_machine.specs.Allocation.{next_available, next_for}
 use Rattle.versions_machine.specs.Plan.{Order, writing, unfreezing, unfreezes, Carried, carried_of, given, carried_out, log_plan}
@@ -50,7 +51,7 @@ module _ {γ : Geometry} (σ : Proper γ) where
 
   -- ---- a version's own two orders
 
-  module _ (s : Box) (block now lock : ℕ) (content : List ℕ) (replaced : ℕ) (h : VersionReady γ s block now lock content replaced)
+  module _ (s : Box) (block now lock : ℕ) (content : List ℕ) (replaced : Option ℕ) (h : VersionReady γ s block now lock content replaced)
       (r : ℕ) (t : Box) (e : carried_of r t ≡ carried_out γ s (writing block now lock content ∷ [])) where
     abbrev o : Order
     o = writing block now lock content
@@ -58,28 +59,24 @@ module _ {γ : Geometry} (σ : Proper γ) where
     -- the first leaves a box for the second
     pub second_ready : OrderReady γ t now
     second_ready =
-        let c = carried_append σ s (o ∷ []) (unfreezes (block_named replaced) now) h.accepted in
+        let c = carried_append σ s (o ∷ []) (unfreezes replaced now) h.accepted in
         let v = carried_valid σ now s o [] (refl, tt) c.0 in
         subst (λ (x : Carried). OrderReady γ x.box now) (sym e) (record { valid = v.0; later = omega (arith, v.1); early = h.box.early })
 
     -- where there is none to unfreeze, it is the only one
-    pub wrote_first : replaced ≡ no_block → t ≡ (carried_out γ s (o ∷ unfreezes (block_named replaced) now)).box
+    pub wrote_first : replaced ≡ None → t ≡ (carried_out γ s (o ∷ unfreezes replaced now)).box
     unfolding unfreezes
-    wrote_first n =
-        ap (λ (x : Carried). x.box) e ∙ ap (λ (os : List Order). (carried_out γ s (o ∷ os)).box) (sym (rw (unfreezes, eq-eqb replaced no_block n)))
+    wrote_first n = ap (λ (x : Carried). x.box) e ∙ ap (λ (x : Option ℕ). (carried_out γ s (o ∷ unfreezes x now)).box) (sym n)
 
-    pub wrote_both : (replaced ≡ no_block → ⊥) → (q : ℕ) (u : Box) → carried_of q u ≡ carried_out γ t (unfreezing replaced now ∷ [])
-        → u ≡ (carried_out γ s (o ∷ unfreezes (block_named replaced) now)).box
+    pub wrote_both : (old : ℕ) → replaced ≡ Some old → (q : ℕ) (u : Box) → carried_of q u ≡ carried_out γ t (unfreezing old now ∷ [])
+        → u ≡ (carried_out γ s (o ∷ unfreezes replaced now)).box
     unfolding unfreezes
-    wrote_both n q u f =
-        let c = carried_append σ s (o ∷ []) (unfreezes (block_named replaced) now) h.accepted in
+    wrote_both old n q u f =
+        let c = carried_append σ s (o ∷ []) (unfreezes replaced now) h.accepted in
         ap (λ (x : Carried). x.box) f
-        ∙ ap (λ (x : Carried). (carried_out γ x.box (unfreezing replaced now ∷ [])).box) e
-        ∙ ap (λ (os : List Order). (carried_out γ (carried_out γ s (o ∷ [])).box os).box) (sym is_named)
+        ∙ ap (λ (x : Carried). (carried_out γ x.box (unfreezing old now ∷ [])).box) e
+        ∙ ap (λ (x : Option ℕ). (carried_out γ (carried_out γ s (o ∷ [])).box (unfreezes x now)).box) (sym n)
         ∙ ap (λ (x : Carried). x.box) (sym c.1)
-      where
-        is_named : unfreezes (block_named replaced) now ≡ unfreezing replaced now ∷ []
-        is_named = rw (unfreezes, ne_eqb replaced no_block n)
 
   -- ---- a log block
 
@@ -135,17 +132,17 @@ module _ {γ : Geometry} (σ : Proper γ) where
     number_is =
         flush_number σ ρ ν s now (sound γ state h.valid) some h.asked ∙ ap (λ (x : Carried). x.number) (sym given_log)
 
-    pub flush_refused : (r ≡ 0 → ⊥) → called_of r 0 state t ≡ handed γ state (flush γ ρ ν s now)
-    flush_refused n =
-        ap (called_of r 0 state) (refused_box s t (writing reserve now lock content) r e n)
+    pub flush_refused : (r ≡ 0 → ⊥) → (k : ℕ) → k ≡ r → called_of k 0 state t ≡ handed γ state (flush γ ρ ν s now)
+    flush_refused n k ek =
+        ap (λ (i : ℕ). called_of i 0 state t) ek
+        ∙ ap (called_of r 0 state) (refused_box s t (writing reserve now lock content) r e n)
         ∙ sym (handed_none σ state s (flush γ ρ ν s now) r number_is n (flush_unaltered γ ρ ν s now (λ z. n (sym number_is ∙ z))))
 
-    pub flush_stored : r ≡ 0 → (after : List ℕ) → after ≡ state_bytes γ (logged ν pointer) → called_of r 0 after t ≡ handed γ state (flush γ ρ ν s now)
+    pub flush_stored : r ≡ 0 → (after : List ℕ) → after ≡ state_bytes γ (logged ν pointer) → called_of 0 0 after t ≡ handed γ state (flush γ ρ ν s now)
     flush_stored z after ea =
         let a = ap (λ (x : Carried). x.number) (sym given_log) ∙ z in
         let plan = log_plan γ ρ ν s now in
-        ap (λ (n : ℕ). called_of n 0 after t) z
-        ∙ ap (λ (xs : List ℕ). called_of 0 0 xs t) (log_after ρ ν s now pointer after h.pointer_is ea)
+        ap (λ (xs : List ℕ). called_of 0 0 xs t) (log_after ρ ν s now pointer after h.pointer_is ea)
         ∙ ap (λ (x : Carried). called_of 0 0 (state_bytes γ plan.after) x.box) given_log
         ∙ sym
         (handed_all σ state (flush γ ρ ν s now) 0 plan.after (carried_out γ s plan.orders).box

@@ -9,7 +9,7 @@ use borrow.Author.Tests.{eq-eqb, ne_eqb, leb-true}
 use Rattle.lockpage.specs.Geometry.{Geometry, Proper}
 use Rattle.memory.specs.Memory.{groups}
 use Rattle.machine.specs.Command.{Box}
-use Rattle.versions_machine.specs.Versions.{Range, Versions, block_number, block_named, entered}
+use Rattle.versions_machine.specs.Versions.{Range, Versions, entered}
 use Rattle.versions_machine.specs.Log.{records_per_block, is_full}
 use Rattle.versions_machine.specs.Allocation.{whole_box, next_for}
 use Rattle.versions_machine.specs.Plan.{Order, Plan, writing, unfreezes, carried_out, log_plan, version_orders}
@@ -21,7 +21,7 @@ use Rattle.versions_state.specs.Layout.{most_records}
 use Rattle.versions_state.specs.State.{record_count, state_bytes, versions_in}
 use Rattle.versions_state.proofs.ValidLaw.{facts}
 use Rattle.versions_steps.specs.Ready.{Leaves, VersionReady, FullLogReady, StoreReady}
-use Rattle.versions_steps.proofs.ForecastLaw.{newest_named, full_is}
+use Rattle.versions_steps.proofs.ForecastLaw.{full_is}
 use Rattle.versions_steps.proofs.PutLaw.{own_accepted, put_enters, log_accepted, put_logs}
 
 module _ {γ : Geometry} (σ : Proper γ) (state : List ℕ) (s : Box) (part block now : ℕ) (content : List ℕ)
@@ -52,14 +52,13 @@ module _ {γ : Geometry} (σ : Proper γ) (state : List ℕ) (s : Box) (part blo
 
   -- ---- the version's own commands, by the fields that were read from the state
 
-  module _ (lock : ℕ) (is-lock : lock ≡ ν.lock) (replaced : ℕ) (is-replaced : replaced ≡ block_number (ν.newest part)) where
-    orders_are : writing block now lock content ∷ unfreezes (block_named replaced) now ≡ own
+  module _ (lock : ℕ) (is-lock : lock ≡ ν.lock) (replaced : Option ℕ) (is-replaced : replaced ≡ ν.newest part) where
+    orders_are : writing block now lock content ∷ unfreezes replaced now ≡ own
     unfolding version_orders
     orders_are =
-        let named = ap block_named is-replaced ∙ newest_named state part is_part in
-        ap (λ (x : ℕ). writing x now lock content ∷ unfreezes (block_named replaced) now) ready.put_ready.block_is
-        ∙ ap (λ (x : ℕ). writing v now x content ∷ unfreezes (block_named replaced) now) is-lock
-        ∙ ap (λ (x : Option ℕ). writing v now ν.lock content ∷ unfreezes x now) named
+        ap (λ (x : ℕ). writing x now lock content ∷ unfreezes replaced now) ready.put_ready.block_is
+        ∙ ap (λ (x : ℕ). writing v now x content ∷ unfreezes replaced now) is-lock
+        ∙ ap (λ (x : Option ℕ). writing v now ν.lock content ∷ unfreezes x now) is-replaced
 
     pub version_ready : VersionReady γ s block now lock content replaced
     version_ready =
@@ -68,7 +67,7 @@ module _ {γ : Geometry} (σ : Proper γ) (state : List ℕ) (s : Box) (part blo
           accepted = ap (λ (os : List Order). (carried_out γ s os).number) orders_are ∙ own_accepted σ ρ ν s part now content ready.accepted;
         }
 
-    module _ (t : Box) (wrote : t ≡ (carried_out γ s (writing block now lock content ∷ unfreezes (block_named replaced) now)).box) where
+    module _ (t : Box) (wrote : t ≡ (carried_out γ s (writing block now lock content ∷ unfreezes replaced now)).box) where
       box_is : t ≡ (carried_out γ s own).box
       box_is = wrote ∙ ap (λ (os : List Order). (carried_out γ s os).box) orders_are
 

@@ -1,10 +1,10 @@
 -- What the steps of a put and of a store on demand take for granted, since the questions have seen to it. Assumes nothing: these are
 -- definitions.
-use Rattle.std.specs.Prelude.{◌≡◌, true, List, ◌∷◌, ℕ, ◌+◌, ◌≤◌}
+use Rattle.std.specs.Prelude.{◌≡◌, true, Option, List, ◌∷◌, ℕ, ◌+◌, ◌≤◌}
 use Rattle.lockpage.specs.Geometry.{Geometry}
 use Rattle.machine.specs.Command.{Box}
 use Rattle.machine.specs.Question.{first_no}
-use Rattle.versions_machine.specs.Versions.{Range, block_named, entered}
+use Rattle.versions_machine.specs.Versions.{Range, entered}
 use Rattle.versions_machine.specs.Log.{records_per_block}
 use Rattle.versions_machine.specs.Allocation.{next_for}
 use Rattle.versions_machine.specs.Plan.{writing, unfreezes, carried_out, log_plan}
@@ -19,9 +19,9 @@ module _ (γ : Geometry) where
     pub box_is : s ≡ r.box
 
   -- the version's own commands are accepted
-  pub record VersionReady (s : Box) (block now lock : ℕ) (content : List ℕ) (replaced : ℕ) : Type 0 where
+  pub record VersionReady (s : Box) (block now lock : ℕ) (content : List ℕ) (replaced : Option ℕ) : Type 0 where
     pub box : OrderReady γ s now
-    pub accepted : (carried_out γ s (writing block now lock content ∷ unfreezes (block_named replaced) now)).number ≡ 0
+    pub accepted : (carried_out γ s (writing block now lock content ∷ unfreezes replaced now)).number ≡ 0
 
   module _ (ρ : Range) where
     -- the number of the first question put to the box that has no, and block 0; or 0, and the block that is taken

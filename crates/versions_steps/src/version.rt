@@ -2,8 +2,8 @@
 ghost use Rattle.std.specs.Prelude.{◌≡◌, ◌∷◌};
 ghost use Rattle.lockpage.specs.Geometry.{present};
 ghost use Rattle.memory.specs.Memory.{groups};
+ghost use Rattle.machine.specs.Refusal.{number_of};
 ghost use Rattle.machine.specs.Call.{box_at};
-ghost use Rattle.versions_machine.specs.Versions.{block_named};
 ghost use Rattle.versions_machine.specs.Allocation.{whole_box};
 ghost use Rattle.versions_machine.specs.Plan.{writing, unfreezes, carried_out};
 ghost use Rattle.versions_machine.specs.Call as M;
@@ -12,9 +12,10 @@ ghost use Rattle.versions_steps.specs.Ready.{Leaves, VersionReady, PutReady, Sto
 
 use crate::log;
 use lockpage::Update;
+use machine::Refusal;
 use versions_state::layout::MOST_RECORDS;
 
-// The number that a put will get, from what is read before its first command.
+// Why a put will be refused, from what is read before its first command.
 pub fn forecast(
     state: &[u8],
     memory: &[u8],
@@ -23,9 +24,9 @@ pub fn forecast(
     block: u32,
     time: u32,
     content: &[u8],
-) -> u32
+) -> Result<(), Refusal>
     requires { PutReady present (whole_box present (groups present memory.now)) state.now (box_at memory.now disk.now) part block time }
-    ensures { result ≡ (M.put present (whole_box present (groups present memory.now)) (versions_in state.now)
+    ensures { number_of result ≡ (M.put present (whole_box present (groups present memory.now)) (versions_in state.now)
         (box_at memory.now disk.now) part time content.now).number }
 {
     versions_forecast::forecast(
@@ -41,7 +42,7 @@ pub fn forecast(
     )
 }
 
-// Writes a version, and unfreezes the one that it replaces.
+// Writes a version, and unfreezes the one that it replaces. Both commands are accepted: the put was forecast.
 fn write(
     memory: &mut [u8],
     disk: &mut [u8],
@@ -49,15 +50,15 @@ fn write(
     time: u32,
     lock: u32,
     content: &[u8],
-    replaced: u32,
+    replaced: Option<u32>,
 )
     requires { VersionReady present (box_at memory.old disk.old) block time lock content.now replaced }
     ensures { box_at memory.new disk.new ≡ (carried_out present (box_at memory.old disk.old)
-        (writing block time lock content.now ∷ unfreezes (block_named replaced) time)).box }
+        (writing block time lock content.now ∷ unfreezes replaced time)).box }
 {
-    versions_orders::give(memory, disk, Update::Write(lock), block, time, content);
-    if replaced != versions_machine::NO_BLOCK {
-        versions_orders::give(
+    let _ = versions_orders::give(memory, disk, Update::Write(lock), block, time, content);
+    if let Some(replaced) = replaced {
+        let _ = versions_orders::give(
             memory,
             disk,
             Update::Unfreeze,
@@ -85,7 +86,8 @@ pub fn store(
     let lock = versions_state::lock(state);
     let replaced = versions_state::newest(state, part);
     write(memory, disk, block, time, lock, content, replaced);
-    if versions_state::record_count(state) < MOST_RECORDS {
+    let has_room = versions_state::record_count(state) < MOST_RECORDS;
+    if has_room {
         versions_updates::enter(state, part, block);
         return;
     }
