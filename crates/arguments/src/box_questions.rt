@@ -6,7 +6,8 @@ ghost use Rattle.machine.specs.Question.{question1, question2, question4, first_
 
 use machine::Refusal;
 
-// The first that says no refuses.
+// The first that says no refuses. Compiled where it is called, which keeps a query of one block as fast.
+#[inline(always)]
 #[tactic(auto, using(crate::proofs::ArgumentLaw::memory_sized), unfolding(machine::specs::Question::first_no))]
 pub fn check(memory: &[u8], disk: &[u8], time: u32) -> Result<(), Refusal>
     ensures { number_of result ≡ first_no (question1 present memory.now

@@ -65,8 +65,7 @@ fn all_below(blocks: &[u8], limit: u32) -> bool
     below
 }
 
-// The first question that says no to a query refuses it. They are, in order, 1, 2, 4, 12, 5 and 6. The first three are asked here and
-// not by arguments::box_questions, so that they are compiled in their place.
+// The first question that says no to a query refuses it. They are, in order, 1, 2, 4, 12, 5 and 6.
 #[tactic(auto, using(crate::proofs::RefusalLaw::asked), unfolding(machine::specs::Question::first_no, machine::specs::Query::query_refusal))]
 pub fn check(
     memory: &[u8],
@@ -77,15 +76,7 @@ pub fn check(
 ) -> Result<(), Refusal>
     ensures { number_of result ≡ query_refusal present (box_at memory.now disk.now) (query_at blocks.now time answer.now) }
 {
-    if !validity::valid(memory) {
-        return Err(Refusal::MemoryInvalid);
-    }
-    if !arguments::disk_fits(memory, disk) {
-        return Err(Refusal::DiskSizeWrong);
-    }
-    if !arguments::is_timely(memory, time) {
-        return Err(Refusal::TimeOutOfRange);
-    }
+    arguments::box_questions::check(memory, disk, time)?;
     if !is_list(blocks) {
         return Err(Refusal::ListSizeWrong);
     }

@@ -9,6 +9,7 @@ use Rattle.addressing.specs.Map.{page_block}
 use Rattle.disk.specs.Disk.{with_block}
 use Rattle.machine.specs.Effect.{store, stored}
 use Rattle.machine.specs.Format.{blank_pages}
+use Rattle.machine.proofs.FormatLaw.{formattable, formatting_accepted, formatting_refused}
 use Rattle.machine.proofs.EffectLaw.{stored_append}
 
 -- γ is any proper geometry
@@ -29,3 +30,6 @@ module _ {γ : Geometry} (σ : Proper γ) where
 
   pub pages_end : (disk d : List ℕ) (g groups : ℕ) → g ≡ groups → d ≡ stored γ disk (blank_pages γ g) → d ≡ stored γ disk (blank_pages γ groups)
   pages_end disk d g groups e ed = ed ∙ ap (λ (n : ℕ). stored γ disk (blank_pages γ n)) e
+
+-- what `format` cites
+pub ruleset format_steps = (formattable, formatting_accepted, formatting_refused)

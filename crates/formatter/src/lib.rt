@@ -33,7 +33,7 @@ fn check(memory: &[u8], disk: &[u8], groups: u32, salt: &[u8]) -> Result<(), Ref
 }
 
 // Formats a box. Where it is refused, no byte is changed.
-#[tactic(auto, using(lockpage::proofs::GeometryLaw::present_proper, machine::proofs::FormatLaw::formattable, machine::proofs::FormatLaw::formatting_accepted, machine::proofs::FormatLaw::formatting_refused))]
+#[tactic(auto, using(lockpage::proofs::GeometryLaw::present_proper, crate::proofs::FormatLaw::format_steps))]
 pub fn format(memory: &mut [u8], disk: &mut [u8], groups: u32, salt: &[u8]) -> Result<(), Refusal>
     ensures { format_outcome_at (number_of result) memory.new disk.new
         ≡ F.format present (box_at memory.old disk.old) groups salt.now }

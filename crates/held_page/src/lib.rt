@@ -49,7 +49,6 @@ pub fn is_zero(memory: &[u8]) -> bool
 }
 
 // Holds a group's page, which has had that many updates.
-#[tactic(auto, unfolding(memory::specs::Memory::holding, memory::specs::Memory::with_held, memory::specs::Memory::with_update_count, memory::specs::Memory::with_held_page))]
 pub fn hold(memory: &mut [u8], group: u32, updates: u32, page: &[u8])
     requires { HasPage present memory.old group page.now × (updates ≤ most_updates) }
     ensures { memory.new ≡ holding present memory.old group updates page.now }
@@ -60,7 +59,6 @@ pub fn hold(memory: &mut [u8], group: u32, updates: u32, page: &[u8])
 }
 
 // Holds no page.
-#[tactic(auto, unfolding(memory::specs::Memory::holding_none, memory::specs::Memory::holding, memory::specs::Memory::with_held, memory::specs::Memory::with_update_count, memory::specs::Memory::with_held_page))]
 pub fn hold_none(memory: &mut [u8])
     requires { length memory.old ≡ memory_size present }
     ensures { memory.new ≡ holding_none present memory.old }

@@ -31,7 +31,7 @@ fn lay_out(old: &[u8], new: &mut [u8])
 
 // Migrates an old memory into the buffer; where it is refused, no byte is changed. The old memory is judged by the new one, which is
 // valid if and only if the old one is, but for its groups.
-#[tactic(auto, using(crate::proofs::AskedLaw::old_size, crate::proofs::AskedLaw::old_groups, crate::proofs::AskedLaw::new_groups, crate::proofs::AskedLaw::new_valid, std::proofs::lemmas::Bool::Decides::nat_tests), unfolding(migration_machine::specs::Migrate::migrate, migration_machine::specs::Migrate::migrate_questions, machine::specs::Question::first_no, octets::specs::Part::repeated))]
+#[tactic(auto, using(crate::proofs::AskedLaw::old_memory), unfolding(octets::specs::Part::repeated))]
 pub fn migrate(old: &[u8], memory: &mut [u8]) -> Result<(), Refusal>
     ensures { migration_at (number_of result) memory.new ≡ migration base present.most_groups old.now memory.old }
 {

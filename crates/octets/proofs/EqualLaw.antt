@@ -59,9 +59,6 @@ pub record Compared (a b : List ℕ) (i d : ℕ) : Type 0 where
   pub same : d ≡ 0 → (k : ℕ) → k < i → get_or a k 0 ≡ get_or b k 0
   pub none : ((k : ℕ) → k < i → get_or a k 0 ≡ get_or b k 0) → d ≡ 0
 
-pub compared_start : (a b : List ℕ) → Compared a b 0 0
-compared_start a b = record { same = λ e k h. absurd (omega arith); none = λ all. refl }
-
 pub compared_step : (a b : List ℕ) (i d : ℕ) → Compared a b i d → Compared a b (i + 1) (bit_or d (bit_xor (get_or a i 0) (get_or b i 0)))
 compared_step a b i d c =
     record {

@@ -1,18 +1,16 @@
 -- Laws of a list with a part replaced: its length, what stands at the place and at another, the same place replaced again, two places
--- side by side, a part that was lent and came back, stores one by one. Assumes nothing.
+-- side by side, a part that was lent and came back, single elements stored in a row. Assumes nothing.
 use mathlib.Core.Path.{◌≡◌, refl, ap, ap₂, sym, ◌∙◌}
 use mathlib.Core.Logic.{◌⊎◌, inl, inr}
 use mathlib.Core.List.{List, [], ◌++◌, append_assoc, append-nil}
 use Prim.Native.Nat.{ℕ, ◌+◌, ◌-◌, ◌*◌, ◌≤◌, ◌<◌}
 use native.Mathlib.Nat.{add_assoc, add-zero, zero-add, mul-le-mul_left}
-use native.Mathlib.Numerals.{add-one}
 use native.Mathlib.Omega.{arith}
-use lib.ListN.{length, take, drop, get_or, set, length-append, length-set, length-drop, take-append-drop, drop_of_length-le}
-use lib.Seq.{take_at, drop_at, take-append-le, drop-append-le, take-append-add, drop-append-add, drop-drop, length-take-le, take-length, sets, sets-eq, paste}
-use lib.Seq.{paste-zero, paste-suc}
+use lib.ListN.{length, take, drop, length-append, length-drop, take-append-drop, drop_of_length-le}
+use lib.Seq.{take_at, drop_at, take-append-le, drop-append-le, take-append-add, drop-append-add, drop-drop, length-take-le, sets, sets-eq}
 use Rattle.octets.specs.Part.{part, replaced}
 use Rattle.octets.proofs.OrderLaw.{apart}
-use Rattle.octets.proofs.PartLaw.{part_left, part_length, part_part, part_all}
+use Rattle.octets.proofs.PartLaw.{part_left, part_part}
 
 pub replaced_length : (l : List ℕ) (at : ℕ) (new : List ℕ) → at + length new ≤ length l → length (replaced l at new) ≡ length l
 unfolding replaced
@@ -142,12 +140,6 @@ replaced_within l a k f new h e =
     ∙ ap (λ (y : List ℕ). p ++ replaced y f new) (sym (take-append-drop k x))
     ∙ ap (λ (y : List ℕ). p ++ y) (replaced_back q (drop k x) f new long))
 
--- ---- copies
-
--- a part copied into a buffer of its size
-pub part_copied : (l buffer r : List ℕ) (at n : ℕ) → length buffer ≡ n → at + n ≤ length l → r ≡ replaced buffer 0 (part l at n) → r ≡ part l at n
-part_copied l buffer r at n s h e = e ∙ replaced_all buffer (part l at n) (part_length l at n h ∙ sym s)
-
 -- a part that was lent and came back as new
 pub lent_filled : (l new r : List ℕ) (a k : ℕ) → length new ≡ k → r ≡ new → take a l ++ (r ++ drop k (drop a l)) ≡ replaced l a new
 lent_filled l new r a k s e = replaced_lent l a k r (ap length e ∙ s) ∙ ap (replaced l a) e
@@ -167,37 +159,9 @@ replaced_end l at new e =
     ap (λ (x : List ℕ). take at l ++ (new ++ x)) (drop_of_length-le l {i = at + length new} (omega arith))
     ∙ ap (λ (x : List ℕ). take at l ++ x) (append-nil new)
 
--- all of a list copied
-pub all_copied : (l new r : List ℕ) (at n : ℕ) → length new ≡ n → r ≡ replaced l at (part new 0 n) → r ≡ replaced l at new
-all_copied l new r at n s e = e ∙ ap (replaced l at) (part_all new n (omega arith))
-
 -- ---- stores of single elements
 
 -- a run of them is one replacement
 pub replaced_sets : (l : List ℕ) (at : ℕ) (new : List ℕ) → at + length new ≤ length l → sets l at new ≡ replaced l at new
 unfolding replaced
 replaced_sets l at new h = sets-eq new l at h ∙ append_assoc (take at l) new (drop (at + length new) l)
-
--- a loop that stores the elements of new one by one: the first i stand from at on
-pub record Written (l : List ℕ) (at : ℕ) (new : List ℕ) (i : ℕ) (m : List ℕ) : Type 0 where
-  pub is : m ≡ paste l at new i
-  pub size : length m ≡ length l
-
-pub written_start : (l : List ℕ) (at : ℕ) (new : List ℕ) → Written l at new 0 l
-written_start l at new = record { is = paste-zero l at new; size = refl }
-
-pub written_step : (l : List ℕ) (at : ℕ) (new : List ℕ) (i x : ℕ) (m : List ℕ) → Written l at new i m → at + length new ≤ length l
-    → i < length new → x ≡ get_or new i 0 → Written l at new (i + 1) (set m (at + i) x)
-written_step l at new i x m w h k e =
-    record {
-      is = rw (w.is, e, add-one) (paste-suc l at new i 0 (omega arith) k);
-      size = simp length-set w.size;
-    }
-
-pub written_end : (l : List ℕ) (at : ℕ) (new : List ℕ) (n : ℕ) (m : List ℕ) → Written l at new n m → length new ≡ n → m ≡ replaced l at new
-unfolding replaced
-written_end l at new n m w e =
-    w.is
-    ∙ ap (λ (k : ℕ). paste l at new k) (sym e)
-    ∙ ap (λ (x : List ℕ). take at l ++ x ++ drop (at + length new) l) (take-length new)
-    ∙ append_assoc (take at l) new (drop (at + length new) l)

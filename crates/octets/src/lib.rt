@@ -104,18 +104,6 @@ pub fn store_i64(s: &mut [u8], at: usize, z: i64)
     store_u64(s, at, bits(z));
 }
 
-// Copies the n bytes of src from place from on to dst, from place at on.
-pub fn copy(src: &[u8], from: usize, dst: &mut [u8], at: usize, n: usize)
-    requires { (from + n ≤ length src.now) × (at + n ≤ length dst.old) }
-    ensures { dst.new ≡ replaced dst.old at (part src.now from n) }
-{
-    let mut i = 0;
-    while i < n {
-        dst[at + i] = src[from + i];
-        i += 1;
-    }
-}
-
 // Stores the bytes from at on.
 #[tactic(auto, using(crate::proofs::ReplacedLaw::replaced_lent))]
 pub fn store_bytes(s: &mut [u8], at: usize, bytes: &[u8])

@@ -5,6 +5,8 @@ use mathlib.Mathlib.Data.Bool.Basic.{eq-true_of_not-eq-false', eq-false_of_not-e
 use mathlib.Core.List.{List}
 use Prim.Native.Nat.{ℕ, ◌+◌, ◌-◌, ◌≤◌}
 use native.Mathlib.Omega.{arith}
+use Rattle.std.proofs.lemmas.Bool.Decides.{nat_tests}
+use Rattle.memory.proofs.HeldLaw.{group_held_none, group_held_some}
 use Rattle.octets.specs.Part.{part, repeated, equal}
 use Rattle.octets.proofs.RepeatedLaw.{repeated_within, repeated_joined}
 use Rattle.octets.proofs.EqualLaw.{equal_true, equal_yes, equal_no, equal_iff}
@@ -51,3 +53,6 @@ module _ (m : List ℕ) (a n : ℕ) (r : Bool) (b k : ℕ) (place : b ≡ a) (e 
 
     pub last_decides : (s : Bool) → s ≡ zero_at m c l → s ≡ zero_at m a n
     last_decides s es = es ∙ equal_iff (part m c l) (repeated l 0) (part m a n) (repeated n 0) joined last_too
+
+-- what the check of the held group cites
+pub ruleset held_tests = (group_held_some, group_held_none, nat_tests)

@@ -19,7 +19,7 @@ const FEW_GROUPS: u32 = 16;
 const PIECE_SIZE: usize = layout::COUNT_SIZE * (layout::MOST_GROUPS - FEW_GROUPS) as usize;
 
 // Whether what is held is valid, a page or none.
-#[tactic(auto, using(memory::proofs::HeldLaw::group_held_some, memory::proofs::HeldLaw::group_held_none, std::proofs::lemmas::Bool::Decides::nat_tests), unfolding(crate::specs::Valid::valid_held, crate::specs::Valid::every))]
+#[tactic(auto, using(crate::proofs::CheckLaw::held_tests), unfolding(crate::specs::Valid::valid_held, crate::specs::Valid::every))]
 fn valid_held(memory: &[u8]) -> bool
     requires { (length memory.now ≡ memory_size present) × (groups present memory.now ≤ present.most_groups) }
     ensures { result ≡ valid_held present memory.now }

@@ -5,7 +5,7 @@ use mathlib.Core.List.{List, all}
 use Rattle.std.specs.Prelude.{Option, Some, None}
 use Rattle.std.specs.List.{list_all, range_with_len}
 use Rattle.std.proofs.lemmas.Option.{same_Some, none-some}
-use Prim.Native.Nat.{ℕ, zero, suc, ◌+◌, ◌≤◌, ◌<◌}
+use Prim.Native.Nat.{ℕ, zero, suc, ◌+◌, ◌*◌, ◌≤◌, ◌<◌}
 use native.Mathlib.Numerals.{add-one}
 use borrow.Author.Tests.{le-leb, lt-leb}
 use lib.Dec.{eqb, leb, ltb}
@@ -26,7 +26,7 @@ use Rattle.versions_state.proofs.ReadLaw.{newest_read}
 
 -- layout::MOST_BLOCKS
 abbrev most_blocks : ℕ
-most_blocks = 4096
+most_blocks = present.entries * present.most_groups
 
 block_below : (block : ℕ) → is_block present block ≡ ltb block most_blocks
 unfolding data_blocks

@@ -5,6 +5,7 @@ use mathlib.Core.List.{List}
 use Prim.Native.Nat.{ℕ, ◌≤◌, ◌<◌}
 use lib.ListN.{length}
 use Rattle.std.specs.Prelude.{Some}
+use Rattle.std.proofs.lemmas.Bool.Decides.{nat_tests}
 use Rattle.lockpage.specs.Geometry.{present}
 use Rattle.lockpage.specs.Size.{page_size}
 use Rattle.lockpage.proofs.GeometryLaw.{present_proper as σ}
@@ -12,6 +13,7 @@ use Rattle.addressing.specs.Map.{disk_size}
 use Rattle.disk.specs.Disk.{HasGroup}
 use Rattle.memory.specs.Layout.{memory_size}
 use Rattle.memory.specs.Memory.{count, groups, held, group_held, update_count, held_page, most_updates}
+use Rattle.memory.proofs.HeldLaw.{group_held_none, group_held_some}
 use Rattle.memory.proofs.FieldLaw.{held_page_length}
 use Rattle.validity.specs.Valid.{count_limit, valid}
 use Rattle.validity.proofs.ValidLaw.{facts, updates_few}
@@ -36,3 +38,12 @@ module _ (m : List ℕ) (v : valid present m ≡ true) where
 
     pub named_has : (disk : List ℕ) → length disk ≡ disk_size present (groups present m) → HasGroup present disk h
     named_has disk size = held_has σ m h named (facts σ m v) disk size
+
+-- what the functions cite
+pub ruleset held_tests = (valid_size, nat_tests)
+
+pub ruleset update_steps = (valid_size, valid_updates, nat_tests)
+
+pub ruleset put_steps = (valid_size, valid_page, named_has, group_held_none, group_held_some, nat_tests)
+
+pub ruleset loss_steps = (valid_size, named_few, named_count, group_held_none, group_held_some, nat_tests)

@@ -14,7 +14,7 @@ use lockpage::PAGE_SIZE;
 use memory::layout::MOST_UPDATES;
 
 // Puts the held page, if any, on the disk.
-#[tactic(auto, using(crate::proofs::CodeLaw::valid_size, crate::proofs::CodeLaw::valid_page, crate::proofs::CodeLaw::named_has, memory::proofs::HeldLaw::group_held_none, memory::proofs::HeldLaw::group_held_some, std::proofs::lemmas::Bool::Decides::nat_tests), unfolding(machine::specs::Effect::put_held, machine::specs::Effect::stored))]
+#[tactic(auto, using(crate::proofs::CodeLaw::put_steps), unfolding(machine::specs::Effect::put_held, machine::specs::Effect::stored))]
 pub fn put_held(memory: &[u8], disk: &mut [u8])
     requires { ValidBox present (box_at memory.now disk.old) }
     ensures { disk.new ≡ stored present disk.old (put_held present memory.now) }
@@ -28,7 +28,7 @@ pub fn put_held(memory: &[u8], disk: &mut [u8])
 }
 
 // The same, if it is another group's.
-#[tactic(auto, using(crate::proofs::CodeLaw::valid_size, std::proofs::lemmas::Bool::Decides::nat_tests), unfolding(machine::specs::Effect::evict, machine::specs::Effect::stored))]
+#[tactic(auto, using(crate::proofs::CodeLaw::held_tests), unfolding(machine::specs::Effect::evict, machine::specs::Effect::stored))]
 pub fn evict(memory: &[u8], disk: &mut [u8], group: u32)
     requires { ValidBox present (box_at memory.now disk.old) }
     ensures { disk.new ≡ stored present disk.old (E.evict present memory.now group) }
@@ -40,7 +40,7 @@ pub fn evict(memory: &[u8], disk: &mut [u8], group: u32)
 }
 
 // The number of the next update of a group's page, from 1 on where it is not held.
-#[tactic(auto, using(crate::proofs::CodeLaw::valid_size, crate::proofs::CodeLaw::valid_updates, std::proofs::lemmas::Bool::Decides::nat_tests), unfolding(machine::specs::Effect::next_update_count))]
+#[tactic(auto, using(crate::proofs::CodeLaw::update_steps), unfolding(machine::specs::Effect::next_update_count))]
 fn next_update(memory: &[u8], group: u32) -> u32
     requires { valid present memory.now ≡ true }
     ensures { result ≡ next_update_count present memory.now group }
@@ -69,7 +69,7 @@ pub fn hold_or_put(memory: &mut [u8], disk: &mut [u8], group: u32, page: &[u8])
 }
 
 // The held page, if any, is lost.
-#[tactic(auto, using(crate::proofs::CodeLaw::valid_size, crate::proofs::CodeLaw::named_few, crate::proofs::CodeLaw::named_count, memory::proofs::HeldLaw::group_held_none, memory::proofs::HeldLaw::group_held_some, std::proofs::lemmas::Bool::Decides::nat_tests), unfolding(machine::specs::Effect::restarted_memory))]
+#[tactic(auto, using(crate::proofs::CodeLaw::loss_steps), unfolding(machine::specs::Effect::restarted_memory))]
 pub fn lose_held(memory: &mut [u8])
     requires { valid present memory.old ≡ true }
     ensures { memory.new ≡ restarted_memory present memory.old }
