@@ -6,6 +6,7 @@ use Prim.Native.Nat.{ℕ}
 use lib.ListN.{length}
 use Rattle.lockpage.specs.Geometry.{Geometry, Proper, present}
 use Rattle.lockpage.proofs.GeometryLaw.{present_proper}
+use Rattle.addressing.proofs.MapLaw.{place_of_below}
 use Rattle.memory.specs.Layout.{memory_size}
 use Rattle.validity.specs.Valid.{valid}
 use Rattle.validity.proofs.ValidLaw.{facts}
@@ -103,3 +104,5 @@ pub memory_sized : (m : List ℕ) → valid present m ≡ true → length m ≡ 
 memory_sized m e = (facts present_proper m e).size
 
 pub ruleset asked_in_order = (no_2, no_3, no_4, no_5, no_6, none_no)
+
+pub ruleset brought = (present_proper, place_of_below)

@@ -101,7 +101,7 @@ pub fn check(
 }
 
 // The block's entry on the page brought.
-#[tactic(auto, using(lockpage::proofs::GeometryLaw::present_proper, addressing::proofs::MapLaw::place_of_below), unfolding(machine::specs::Command::brought_page, octets::specs::Part::part))]
+#[tactic(auto, using(crate::proofs::ArgumentLaw::brought), unfolding(machine::specs::Command::brought_page, octets::specs::Part::part))]
 pub fn brought_entry(proof: &[u8], block: u32) -> Entry
     requires { length proof.now ≡ proof_size present }
     ensures { result ≡ entry_at (brought_page present proof.now) (place_of present block) }

@@ -15,7 +15,8 @@ use Rattle.machine.specs.Refusal.{refusal_number}
 use Rattle.machine.proofs.RefusalLaw.{some_number}
 use Rattle.machine.specs.Command.{Box, box_of}
 use Rattle.machine.specs.Step.{timed}
-use Rattle.machine.specs.Query.{Query, query_of, query_outcome_of, number_count, block_number, numbers, listed, distinct, shown_states, pages_read, query_refusal}
+use Rattle.machine.specs.Query.{Query, query_of, query_outcome_of, number_count, block_number}
+use Rattle.machine.specs.Query.{numbers, listed, distinct, shown_states, pages_read, query_refusal}
 use Rattle.machine.specs.Query.{query_accepted, query_step}
 use Rattle.machine.specs.Claims.{ValidBox}
 use Rattle.machine.proofs.PassedLaw.{timed_reads}

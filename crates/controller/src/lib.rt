@@ -29,7 +29,8 @@ pub fn update(
     proof: &[u8],
     answer: &mut [u8],
 ) -> Result<(), Refusal>
-    requires { first_no (first_questions present (Kind.Change u) (box_at memory.old disk.old) (command_at 0 block time 0 content.now proof.now answer.old)) ≡ 0 }
+    requires { first_no (first_questions present (Kind.Change u) (box_at memory.old disk.old)
+        (command_at 0 block time 0 content.now proof.now answer.old)) ≡ 0 }
     ensures { ComesTo present (Kind.Change u) (box_at memory.old disk.old)
         (command_at 0 block time 0 content.now proof.now answer.old) (outcome_at (number_of result) memory.new disk.new answer.new) }
 {
@@ -49,7 +50,8 @@ fn new_salt(
     proof: &[u8],
     answer: &mut [u8],
 ) -> Result<(), Refusal>
-    requires { first_no (first_questions present Kind.NewSalt (box_at memory.old disk.old) (command_at 0 block time 0 content.now proof.now answer.old)) ≡ 0 }
+    requires { first_no (first_questions present Kind.NewSalt (box_at memory.old disk.old)
+        (command_at 0 block time 0 content.now proof.now answer.old)) ≡ 0 }
     ensures { ComesTo present Kind.NewSalt (box_at memory.old disk.old)
         (command_at 0 block time 0 content.now proof.now answer.old) (outcome_at (number_of result) memory.new disk.new answer.new) }
 {
@@ -69,7 +71,8 @@ fn carry_out(
     proof: &[u8],
     answer: &mut [u8],
 ) -> Result<(), Refusal>
-    requires { first_no (first_questions present k (box_at memory.old disk.old) (command_at 0 block time 0 content.now proof.now answer.old)) ≡ 0 }
+    requires { first_no (first_questions present k (box_at memory.old disk.old)
+        (command_at 0 block time 0 content.now proof.now answer.old)) ≡ 0 }
     ensures { ComesTo present k (box_at memory.old disk.old)
         (command_at 0 block time 0 content.now proof.now answer.old) (outcome_at (number_of result) memory.new disk.new answer.new) }
 {

@@ -126,16 +126,16 @@ module _ (γ : Geometry) (s : Box) (point now : ℕ) where
     pub still : rest newest (walk_from γ ρ s point now walked parent next left) ≡ recovered γ ρ s point now
 
   pub walk_start : (result marks : List ℕ) (end : ℕ) → end ≡ data_blocks γ (groups γ s.memory) → length marks ≡ marks_size γ → Marks marks []
-      → result ≡ newest_bytes (λ part. None) 0 parts → Walking result marks end 0 0
+      → result ≡ newest_bytes (λ part. None) 0 parts → (left : ℕ) → left ≡ end → Walking result marks left 0 0
   unfolding recovered walked_records walk
-  walk_start result marks end e size are empty =
+  walk_start result marks end e size are empty left el =
       record {
         walked = [];
         newest = λ part. None;
         marks_size_is = size;
         marks_are = are;
         result_is = empty;
-        still = ap (λ (n : ℕ). rest (λ part. None) (walk_from γ ρ s point now [] 0 0 n)) e;
+        still = ap (λ (n : ℕ). rest (λ part. None) (walk_from γ ρ s point now [] 0 0 n)) (el ∙ e);
       }
 
   module _ (result marks : List ℕ) (left parent next : ℕ) (w : Walking result marks left parent next) where
@@ -173,9 +173,9 @@ module _ (γ : Geometry) (s : Box) (point now : ℕ) where
           → marks' ≡ marked marks next → content ≡ block γ s.disk (physical γ next)
           → Takes γ s point now (records_read γ content) result result' → e ≡ current_entry γ s next
           → next' ≡ number_at content (record_size * records_per_block γ) pointer_size
-          → Walking result' marks' (left - 1) (e.stamp / 2) next'
+          → (left' : ℕ) → left' ≡ left - 1 → Walking result' marks' left' (e.stamp / 2) next'
       unfolding time_of_write pointer_read
-      walk_step small marks' content result' e next' em ec takes ee en =
+      walk_step small marks' content result' e next' em ec takes ee en left' el =
           let on = told w.newest (those test (records_of next)) in
           record {
             walked = next ∷ w.walked;
@@ -186,7 +186,8 @@ module _ (γ : Geometry) (s : Box) (point now : ℕ) where
                 takes w.newest w.result_is
                 ∙ ap (λ (l : List ℕ). newest_bytes (told w.newest (those test (records_read γ l))) 0 parts) ec;
             still =
-                ap₂ (λ (p n : ℕ). rest on (walk_from γ ρ s point now (next ∷ w.walked) p n (left - 1)))
+                ap (λ (k : ℕ). rest on (walk_from γ ρ s point now (next ∷ w.walked) (e.stamp / 2) next' k)) el
+                ∙ ap₂ (λ (p n : ℕ). rest on (walk_from γ ρ s point now (next ∷ w.walked) p n (left - 1)))
                 (ap time_of_write ee)
                 (en ∙ ap (pointer_read γ) ec)
                 ∙ sym (more_told w.newest next _)

@@ -1,10 +1,11 @@
 // Recovery: the log is walked once, from the first block on, and each part's last record that counts is in the result. The contract of
-// `recover`, which has no precondition, fixes its number and every byte of the result by the definitions of recovery_machine.
+// `recover`, which has no precondition, fixes what it answers and every byte of the result by the definitions of recovery_machine.
 #![tactic(auto)]
 
 ghost use Rattle.std.specs.Prelude.{◌≡◌, List, ℕ};
 ghost use Rattle.lockpage.specs.Geometry.{present};
 ghost use Rattle.memory.specs.Memory.{groups};
+ghost use Rattle.machine.specs.Refusal.{number_of};
 ghost use Rattle.machine.specs.Question.{first_no};
 ghost use Rattle.machine.specs.Call.{box_at};
 ghost use Rattle.versions_machine.specs.Allocation.{whole_box};
@@ -16,6 +17,7 @@ ghost use Rattle.recovery_machine.specs.Recover as R;
 ghost use Rattle.recovery.specs.Marks.{Marks};
 ghost use Rattle.recovery.specs.Ready.{StepReady, WalkReady};
 
+use machine::Refusal;
 use versions_machine::FIRST_BLOCK;
 use versions_state::layout;
 
@@ -24,18 +26,15 @@ mod records;
 
 pub const RESULT_SIZE: usize = layout::NEWESTS_SIZE;
 
-// Questions 1, 2, 4 and 6: the number of the first that says no, or 0.
-fn refusal(memory: &[u8], disk: &[u8], time: u32, res: &[u8]) -> u32
-    ensures { result ≡ first_no (recover_questions present (box_at memory.now disk.now) time res.now) }
+// Questions 1, 2, 4 and 6: the first that says no refuses.
+fn check(memory: &[u8], disk: &[u8], time: u32, res: &[u8]) -> Result<(), Refusal>
+    ensures { number_of result ≡ first_no (recover_questions present (box_at memory.now disk.now) time res.now) }
 {
-    let number = arguments::box_questions::refusal(memory, disk, time);
-    if number != machine::ACCEPTED {
-        return number;
-    }
+    arguments::box_questions::check(memory, disk, time)?;
     if res.len() != RESULT_SIZE {
-        return machine::LENGTH_WRONG;
+        return Err(Refusal::LengthWrong);
     }
-    machine::ACCEPTED
+    Ok(())
 }
 
 // Whether the walk goes on at a block of the box, whose parent was written at a time.
@@ -56,10 +55,8 @@ fn goes_on(
     if !records::says_kept(e, point, time) {
         return false;
     }
-    if e.stamp / 2 < parent {
-        return false;
-    }
-    !marks::is_marked(marks, block)
+    let follows = e.stamp / 2 >= parent;
+    follows && !marks::is_marked(marks, block)
 }
 
 // Walks the log, and takes the records of each block walked.
@@ -70,10 +67,9 @@ fn walk(memory: &[u8], disk: &[u8], point: u32, time: u32, res: &mut [u8])
 {
     let end = versions_search::end_of(memory);
     let mut marks = [0u8; marks::MARKS_SIZE];
-    let mut left = end;
     let mut parent = 0;
     let mut next = FIRST_BLOCK as u64;
-    while left > 0 {
+    for _ in 0..end {
         if next >= end as u64 {
             return;
         }
@@ -86,20 +82,22 @@ fn walk(memory: &[u8], disk: &[u8], point: u32, time: u32, res: &mut [u8])
         let content = disk::whole::lend_block(disk, block);
         next = octets::load_u64(content, layout::POINTER_START);
         records::take_records(memory, disk, point, time, end, content, res);
-        left -= 1;
     }
 }
 
-// The parts that the log has by the point: 0 with their blocks in the result; where its number is not 0, no byte is changed.
-pub fn recover(memory: &[u8], disk: &[u8], point: u32, time: u32, res: &mut [u8]) -> u32
-    ensures { recovery_at result res.new
+// The parts that the log has by the point: their blocks in the result. Where it is refused, no byte is changed.
+pub fn recover(
+    memory: &[u8],
+    disk: &[u8],
+    point: u32,
+    time: u32,
+    res: &mut [u8],
+) -> Result<(), Refusal>
+    ensures { recovery_at (number_of result) res.new
         ≡ R.recover present (whole_box present (groups present memory.now)) (box_at memory.now disk.now) point time res.old }
 {
-    let number = refusal(memory, disk, time, res);
-    if number != machine::ACCEPTED {
-        return number;
-    }
+    check(memory, disk, time, res)?;
     octets::fill(res, 0, RESULT_SIZE, layout::UNUSED);
     walk(memory, disk, point, time, res);
-    machine::ACCEPTED
+    Ok(())
 }

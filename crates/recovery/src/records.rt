@@ -76,9 +76,7 @@ pub(crate) fn take_records(
     ensures { Takes present (box_at memory.now disk.now) point time (records_read present content.now)
         res.old res.new }
 {
-    let mut i = 0;
-    while i < layout::RECORDS_PER_BLOCK {
+    for i in 0..layout::RECORDS_PER_BLOCK {
         take_record(memory, disk, point, time, end, content, i, res);
-        i += 1;
     }
 }

@@ -114,3 +114,10 @@ module _ (l : List ℕ) (at : ℕ) (v : Values) (s : Shown) (h : at + most_print
           within = within;
           put = (b.put.0 ∙ ap (replaced l at) text, b.put.1 ∙ ap (λ (x : List ℕ). at + length x) text);
         }
+
+  -- from number to number, and the time left behind them
+  pub all_put : (m₁ m₂ m₃ m₄ m₅ n : List ℕ) (i₁ i₂ i₃ i₄ i₅ end : ℕ) → Next l at v.kind m₁ i₁ → Next m₁ i₁ v.block m₂ i₂
+      → Next m₂ i₂ v.time m₃ i₃ → Next m₃ i₃ s.number m₄ i₄ → Next m₄ i₄ s.state m₅ i₅ → SFits w64 s.left
+      → Printed m₅ i₅ (signed_decimal (passed s.left)) n end → Line l at v s n end
+  all_put m₁ m₂ m₃ m₄ m₅ n i₁ i₂ i₃ i₄ i₅ end e₁ e₂ e₃ e₄ e₅ f e =
+      line_put m₅ i₅ (five_put m₁ m₂ m₃ m₄ m₅ i₁ i₂ i₃ i₄ i₅ e₁ e₂ e₃ e₄ e₅) f n end e

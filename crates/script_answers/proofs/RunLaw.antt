@@ -80,15 +80,6 @@ accepted_number (Err r) n e t = absurd (true≢false t)
 
 -- ---- the page
 
--- t is the last time
-pub page_got_lem : (m disk disk' out memory page : List ℕ) (t n : ℕ) → t ≡ last_time present m → out ≡ buffer
-    → outcome_of n memory disk' page ≡ step present (box_of m disk) (command_of 3 0 t 0 [] [] out)
-    → (box_of memory disk' ≡ (page_got (box_of m disk)).box) × (page ≡ (page_got (box_of m disk)).answer)
-unfolding page_got
-page_got_lem m disk disk' out memory page t n et er e =
-    let got = e ∙ ap₂ (λ (x : ℕ) (y : List ℕ). step present (box_of m disk) (command_of 3 0 x 0 [] [] y)) et er in
-    (ap (λ (o : Outcome). o.box) got, ap (λ (o : Outcome). o.answer) got)
-
 -- the out for it is filled or left as it was
 page_size_is : (s : Box) → answer_size present ≡ length (page_got s).answer
 unfolding page_got buffer

@@ -16,7 +16,7 @@ use Rattle.machine.specs.Command.{Box}
 use Rattle.script_answers.specs.Answer.{most_printed}
 use Rattle.script_printout.specs.declared.Reader.{Reader}
 use Rattle.script_printout.specs.declared.Progress.{Progress}
-use Rattle.script_printout.specs.Reader.{Printing, printing, byte_read, prefixed, piece_read, input_end, Placed, placed, fed_of, fed, finished}
+use Rattle.script_printout.specs.Reader.{Printing, printing, byte_read, prefixed, piece_read, Placed, placed, fed_of, fed}
 use Rattle.script_printout.proofs.PlaceLaw.{PrintsOn, nothing_placed, placed_text}
 
 -- i bytes of a piece are read, and what they printed stands at the buffer's start
@@ -101,20 +101,3 @@ module _ (r : Reader) (s : Box) (piece out : List ℕ) where
   feeding_none h =
       ap (λ (x : Placed). record { taken = false; placed = x }) (nothing_placed r s out)
       ∙ sym (rw (lt-leb (length piece * most_printed) (length out) h, fed))
-
--- ---- the end of the input
-
-module _ (r : Reader) (s : Box) (out : List ℕ) where
-  pub finished_printed : (p : Progress) (t : Box) (now : List ℕ) → most_printed ≤ length out → PrintsOn (input_end r s) out 0 p t now
-      → (fed_of r (Some p) t now ≡ finished r s out) × (p.end ≤ length out)
-  unfolding finished
-  finished_printed p t now h w = (
-    ap (λ (x : Placed). record { taken = true; placed = x }) w.0 ∙ sym (rw (le-leb most_printed (length out) h, finished)),
-    omega (arith, w.1),
-  )
-
-  pub finished_none : length out < most_printed → fed_of r None s out ≡ finished r s out
-  unfolding finished
-  finished_none h =
-      ap (λ (x : Placed). record { taken = false; placed = x }) (nothing_placed r s out)
-      ∙ sym (rw (lt-leb most_printed (length out) h, finished))

@@ -1,13 +1,12 @@
 -- Laws of the reader: what each definition gives, by what it looks at, and a piece read in two parts. Assumes nothing.
 use mathlib.Core.Path.{◌≡◌, refl, ap, sym, ◌∙◌}
-use mathlib.Core.Bool.{Bool, true, false, ◌&&◌}
+use mathlib.Core.Bool.{true, false}
 use mathlib.Core.List.{List, [], ◌∷◌, ◌++◌, append_assoc}
 use Prim.Native.Nat.{ℕ, suc, ◌+◌, ◌<◌}
 use native.Mathlib.Nat.{min-eq_left}
 use native.Mathlib.Omega.{arith}
-use mathlib.Mathlib.Data.Bool.Basic.{and_elim_left}
-use borrow.Author.Tests.{eq-eqb, ne_eqb, lt-ltb, ltb-true}
-use lib.Dec.{eqb, ltb}
+use borrow.Author.Tests.{eq-eqb, ne_eqb, lt-ltb}
+use lib.Dec.{ltb}
 use lib.ListN.{length, get_or}
 use Rattle.std.specs.Prelude.{Some, None}
 use Rattle.machine.specs.Command.{Box}
@@ -22,10 +21,6 @@ use Rattle.script_printout.specs.declared.Reader.{Reader}
 use Rattle.script_printout.specs.Printout.{header, heading}
 use Rattle.script_printout.specs.Reader.{Printing, printing, reader_of, most_number, next_number, stopped, header_end, line_end, header_byte, body_byte}
 use Rattle.script_printout.specs.Reader.{byte_read, prefixed, piece_read, body_end, input_end}
-
-pub number_last : next_number most_number ≡ most_number
-unfolding next_number
-number_last = refl
 
 pub number_next : (n : ℕ) → n + 1 < most_number + 1 → next_number n ≡ suc n
 unfolding next_number
@@ -71,22 +66,6 @@ pub header_other : (n k : ℕ) (s : Box) (b : ℕ) → (b ≡ newline → ⊥) �
 unfolding header_byte
 header_other n k s b e h g = rw (ne_eqb b newline e, lt-ltb k (length header) h, ne_eqb (get_or header k 0) b g, header_byte)
 
--- by the one test of the code
-abbrev pub follows : ℕ → ℕ → Bool
-follows k b = ltb k (length header) && eqb (get_or header k 0) b
-
-pub follows_below : (k b : ℕ) → follows k b ≡ true → k < length header
-follows_below k b e = ltb-true k (length header) (and_elim_left (ltb k (length header)) (eqb (get_or header k 0) b) e)
-
-pub header_follows : (n k : ℕ) (s : Box) (b : ℕ) → (b ≡ newline → ⊥) → follows k b ≡ true
-    → header_byte n k s b ≡ printing (reader_of n (Header (k + 1))) s []
-unfolding header_byte
-header_follows n k s b e h = rw (ne_eqb b newline e, h, header_byte)
-
-pub header_differs : (n k : ℕ) (s : Box) (b : ℕ) → (b ≡ newline → ⊥) → follows k b ≡ false → header_byte n k s b ≡ stopped n s
-unfolding header_byte
-header_differs n k s b e h = rw (ne_eqb b newline e, h, header_byte)
-
 pub body_newline : (n : ℕ) (line : Line) (s : Box) (b : ℕ) → b ≡ newline → body_byte n line s b ≡ line_end n line s
 unfolding body_byte
 body_newline n line s b e = rw (eq-eqb b newline e, body_byte)
@@ -103,14 +82,6 @@ body_wrong n line s b e g = rw (ne_eqb b newline e, g, body_byte)
 -- ---- by the stage
 
 module _ (r : Reader) (s : Box) (b : ℕ) where
-  pub byte_header : (k : ℕ) → r.stage ≡ Header k → byte_read r s b ≡ header_byte r.number k s b
-  unfolding byte_read
-  byte_header k e = rw (e, byte_read)
-
-  pub byte_body : (line : Line) → r.stage ≡ Body line → byte_read r s b ≡ body_byte r.number line s b
-  unfolding byte_read
-  byte_body line e = rw (e, byte_read)
-
   pub byte_ended : r.stage ≡ Ended → byte_read r s b ≡ printing r s []
   unfolding byte_read
   byte_ended e =

@@ -1,13 +1,10 @@
 -- Laws of the fixed texts: their lengths, the header's bytes, and the stores that put the heading and the line that names a bad one.
 -- Assumes nothing.
 use mathlib.Core.Path.{◌≡◌, refl, ap, ap₂, ◌∙◌}
-use mathlib.Core.Bool.{false, ◌&&◌}
 use mathlib.Core.List.{List, [], ◌∷◌, ◌++◌, append_assoc}
 use Prim.Native.Nat.{ℕ, ◌+◌, ◌≤◌, ◌<◌}
 use native.Mathlib.Omega.{arith}
-use borrow.Author.Tests.{lt-ltb, le-ltb}
-use lib.Dec.{eqb, ltb}
-use lib.ListN.{length, get_or, length-append}
+use lib.ListN.{length, length-append}
 use Rattle.octets.specs.Part.{replaced}
 use Rattle.octets.proofs.ReplacedLaw.{replaced_append}
 use Rattle.decimal.specs.Decimal.{decimal}
@@ -40,14 +37,6 @@ heading_size = omega (arith, heading_length)
 
 pub bad_line_size : (n : ℕ) → n < 18446744073709551616 → length (bad_line n) ≤ most_printed
 bad_line_size n h = omega (arith, bad_line_length n, decimal_size_64 n h)
-
--- ---- the header's bytes
-
-pub header_beyond : (k b : ℕ) → 20 ≤ k → false ≡ (ltb k (length header) && eqb (get_or header k 0) b)
-header_beyond k b h = rw (le-ltb k (length header) (omega (arith, header_length)))
-
-pub header_within : (k b : ℕ) → k < 20 → eqb (get_or header k 0) b ≡ (ltb k (length header) && eqb (get_or header k 0) b)
-header_within k b h = rw (lt-ltb k (length header) (omega (arith, header_length)))
 
 -- ---- stores
 

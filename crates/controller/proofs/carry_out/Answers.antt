@@ -72,7 +72,8 @@ pub returns-in-Restart : goal.returns-in-Restart
 unfolding first_no effect
 returns-in-Restart c =
     let x = c.args in
-    told_made σ x.k Restart x.memory.now x.disk.now x.block x.time x.content.now x.proof.now x.answer.now c.requires c.in-Restart.is refl _ _ _ (c.restart.ensures x.disk.now)
+    told_made σ x.k Restart x.memory.now x.disk.now x.block x.time x.content.now x.proof.now x.answer.now
+    c.requires c.in-Restart.is refl _ _ _ (c.restart.ensures x.disk.now)
 
 pub identify-requires : goal.identify-requires
 unfolding first_no
@@ -86,8 +87,8 @@ pub returns-in-Identify : goal.returns-in-Identify
 unfolding first_no effect
 returns-in-Identify c =
     let x = c.args in
-    told_made σ x.k Identify x.memory.now x.disk.now x.block x.time x.content.now x.proof.now x.answer.now c.requires c.in-Identify.is refl _ _ _
-    (c.identify.ensures x.disk.now)
+    told_made σ x.k Identify x.memory.now x.disk.now x.block x.time x.content.now x.proof.now x.answer.now
+    c.requires c.in-Identify.is refl _ _ _ (c.identify.ensures x.disk.now)
 
 pub returns-in-Unknown : goal.returns-in-Unknown
 unfolding first_no
