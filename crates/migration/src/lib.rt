@@ -20,6 +20,7 @@ const OLD_TIME_START: usize = layout::COUNTS_START + layout::COUNT_SIZE * OLD_MO
 const OLD_MEMORY_SIZE: usize = OLD_TIME_START + (layout::MEMORY_SIZE - layout::TIME_START);
 
 // Lays an old memory out as a present one, in a buffer of zeros.
+#[tactic(auto, using(octets::proofs::RepeatedLaw::repeated_length))]
 fn lay_out(old: &[u8], new: &mut [u8])
     requires { LayOutReady old.now new.old }
     ensures { new.new ≡ migrated base present.most_groups old.now }

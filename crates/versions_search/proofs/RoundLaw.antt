@@ -1,8 +1,8 @@
 -- Going round is two intervals, so that two searches find the block that is allocated next, and whether there is another. Assumes nothing.
 use mathlib.Core.Path.{◌≡◌, refl, ap, ap₂, sym, ◌∙◌}
 use mathlib.Core.Bool.{Bool, true, false}
-use Rattle.std.specs.Prelude.{Option, Some, None, MatchOption}
-use Rattle.std.specs.Option.{unwrap_or, option_and}
+use Rattle.std.specs.Prelude.{Option, Some, None, Result, Ok, Err, MatchOption}
+use Rattle.std.specs.Option.{unwrap_or, option_and, ok_or}
 use Rattle.std.specs.List.{find}
 use Rattle.std.proofs.lemmas.Option.{none-some}
 use mathlib.Core.List.{List, [], ◌∷◌, ◌++◌, append-nil}
@@ -136,21 +136,21 @@ module _ (γ : Geometry) (s : Box) (now reserve taken end start : ℕ) (e : end 
   unfolding two_available
   two_round = ap (λ (n : ℕ). leb 2 (length (those test (blocks_from 0 n)))) (sym e) ∙ ap (leb 2) (passing_round end taken start b test)
 
-  abbrev answer : Bool → Option ℕ
-  answer two = elim two [ true ↦ Some (next_available γ ρ s now reserve taken) | false ↦ None ]
+  abbrev answer : Bool → Result ℕ ℕ
+  answer two = elim two [ true ↦ Ok (next_available γ ρ s now reserve taken) | false ↦ Err (next_available γ ρ s now reserve taken) ]
 
-  few_answer : total < 2 → next_of_two γ ρ s now reserve taken ≡ None
-  few_answer h = ap answer (two_round ∙ lt-leb 2 total h)
+  few_answer : (r : ℕ) → next_available γ ρ s now reserve taken ≡ r → total < 2 → next_of_two γ ρ s now reserve taken ≡ Err r
+  few_answer r n h = ap answer (two_round ∙ lt-leb 2 total h) ∙ ap Err n
 
   -- r is the first, and o what the search for another one comes to
   decided : (o : Option ℕ) (r : ℕ) → next_available γ ρ s now reserve taken ≡ r → ((q : ℕ) → o ≡ Some q → 2 ≤ total)
-      → (o ≡ None → total < 2) → option_and o (Some r) ≡ next_of_two γ ρ s now reserve taken
-  decided None r n enough few = sym (few_answer (few refl))
-  decided (Some q) r n enough few = sym (ap answer (two_round ∙ le-leb 2 total (enough q refl)) ∙ ap Some n)
+      → (o ≡ None → total < 2) → ok_or (option_and o (Some r)) r ≡ next_of_two γ ρ s now reserve taken
+  decided None r n enough few = sym (few_answer r n (few refl))
+  decided (Some q) r n enough few = sym (ap answer (two_round ∙ le-leb 2 total (enough q refl)) ∙ ap Ok n)
 
   -- one in the first interval; the other, if any, behind it there, or else in the second
   pub two_late : (r : ℕ) (second both : Option ℕ) → late ≡ Some r → second ≡ find test (blocks_from (r + 1) (end - (r + 1)))
-      → MatchOption second (both ≡ early) (λ x. both ≡ Some x) → option_and both (Some r) ≡ next_of_two γ ρ s now reserve taken
+      → MatchOption second (both ≡ early) (λ x. both ≡ Some x) → ok_or (option_and both (Some r)) r ≡ next_of_two γ ρ s now reserve taken
   two_late r (Some q) both f g m =
       let first = hit test start end r b.within f in
       let more = hit test (r + 1) end q (omega (arith, first.below)) (sym g) in
@@ -163,7 +163,7 @@ module _ (γ : Geometry) (s : Box) (now reserve taken end start : ℕ) (e : end 
 
   -- none there; both, if any, in the second
   pub two_early : (r : ℕ) (second : Option ℕ) → late ≡ None → early ≡ Some r → second ≡ find test (blocks_from (r + 1) (start - (r + 1)))
-      → option_and second (Some r) ≡ next_of_two γ ρ s now reserve taken
+      → ok_or (option_and second (Some r)) r ≡ next_of_two γ ρ s now reserve taken
   two_early r second f g k =
       let rest = miss test start end f in
       let first = hit test 0 start r (omega arith) g in
@@ -171,5 +171,6 @@ module _ (γ : Geometry) (s : Box) (now reserve taken end start : ℕ) (e : end 
       (λ q x. omega (arith, first.passing, (hit test (r + 1) start q (omega (arith, first.below)) (sym k ∙ x)).passing))
       (λ x. omega (arith, rest, first.passing, miss test (r + 1) start (sym k ∙ x)))
 
-  pub two_none : late ≡ None → early ≡ None → None ≡ next_of_two γ ρ s now reserve taken
-  two_none f g = sym (few_answer (omega (arith, miss test start end f, miss test 0 start g)))
+  pub two_none : late ≡ None → early ≡ None → Err taken ≡ next_of_two γ ρ s now reserve taken
+  two_none f g =
+      sym (few_answer taken (next_early f ∙ ap (λ (o : Option ℕ). unwrap_or o taken) g) (omega (arith, miss test start end f, miss test 0 start g)))

@@ -62,8 +62,8 @@ pub fn next(memory: &[u8], disk: &[u8], time: u32, reserve: u32, taken: u32) -> 
     found.unwrap_or(taken)
 }
 
-// The block that is allocated next, where there is another one besides it. The search stops at the second.
-pub fn two(memory: &[u8], disk: &[u8], time: u32, reserve: u32, taken: u32) -> Option<u32>
+// The block that is allocated next: Ok where there is another one besides it, and else Err. The search stops at the second.
+pub fn two(memory: &[u8], disk: &[u8], time: u32, reserve: u32, taken: u32) -> Result<u32, u32>
     requires { ValidBox present (box_at memory.now disk.now) }
     ensures { result ≡ next_of_two present (whole_box present (groups present memory.now)) (box_at memory.now disk.now) time reserve taken }
 {
@@ -72,8 +72,13 @@ pub fn two(memory: &[u8], disk: &[u8], time: u32, reserve: u32, taken: u32) -> O
     if let Some(later) = next_in(memory, disk, time, reserve, start, end) {
         return next_in(memory, disk, time, reserve, later + 1, end)
             .or_else(|| next_in(memory, disk, time, reserve, FIRST_BLOCK, start))
-            .and(Some(later));
+            .and(Some(later))
+            .ok_or(later);
     }
-    let earlier = next_in(memory, disk, time, reserve, FIRST_BLOCK, start)?;
-    next_in(memory, disk, time, reserve, earlier + 1, start).and(Some(earlier))
+    let Some(earlier) = next_in(memory, disk, time, reserve, FIRST_BLOCK, start) else {
+        return Err(taken);
+    };
+    next_in(memory, disk, time, reserve, earlier + 1, start)
+        .and(Some(earlier))
+        .ok_or(earlier)
 }

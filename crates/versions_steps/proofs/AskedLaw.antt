@@ -2,8 +2,9 @@
 use mathlib.Core.Path.{◌≡◌, refl, ap, sym, subst, ◌∙◌}
 use mathlib.Core.Bool.{Bool, true, false, not}
 use mathlib.Core.List.{List, [], ◌∷◌}
-use Rattle.std.specs.Prelude.{Option, Some, None, Result}
+use Rattle.std.specs.Prelude.{Result, Ok, Err}
 use Rattle.std.specs.Option.{ok_or}
+use Rattle.std.specs.Result.{result_ok}
 use Prim.Native.Nat.{ℕ}
 use native.Mathlib.Omega.{arith}
 use borrow.Author.Tests.{eqb-true}
@@ -92,16 +93,15 @@ module _ {γ : Geometry} (σ : Proper γ) where
 
     -- as the search for two blocks answers
     module _ (z : n ≡ 0) (reserve : ℕ) (is-reserve : reserve ≡ (versions_in state).reserve) (taken : ℕ) (is-taken : taken ≡ (versions_in state).taken)
-        (found : Option ℕ) (f : found ≡ next_of_two γ ρ s now reserve taken) where
-      pub answered : (a : Result ℕ Refusal) → a ≡ ok_or found TooFewFree → Allocated γ ρ state s now (number_of a) (answered_or_0 a)
+        (found : Result ℕ ℕ) (f : found ≡ next_of_two γ ρ s now reserve taken) where
+      pub answered : (a : Result ℕ Refusal) → a ≡ ok_or (result_ok found) TooFewFree → Allocated γ ρ state s now (number_of a) (answered_or_0 a)
       answered a e = go (two_available γ ρ s now reserve) refl
         where
-          as_found : (two : Bool) → two_available γ ρ s now reserve ≡ two
-              → a ≡ ok_or (elim two [ true ↦ Some (next_available γ ρ s now reserve taken) | false ↦ None ]) TooFewFree
-          as_found two t =
-              e
-              ∙ ap (λ (o : Option ℕ). ok_or o TooFewFree)
-              (f ∙ ap (λ (b : Bool). elim b [ true ↦ Some (next_available γ ρ s now reserve taken) | false ↦ None ]) t)
+          answer : Bool → Result ℕ ℕ
+          answer two = elim two [ true ↦ Ok (next_available γ ρ s now reserve taken) | false ↦ Err (next_available γ ρ s now reserve taken) ]
+
+          as_found : (two : Bool) → two_available γ ρ s now reserve ≡ two → a ≡ ok_or (result_ok (answer two)) TooFewFree
+          as_found two t = e ∙ ap (λ (r : Result ℕ ℕ). ok_or (result_ok r) TooFewFree) (f ∙ ap answer t)
 
           go : (two : Bool) → two_available γ ρ s now reserve ≡ two → Allocated γ ρ state s now (number_of a) (answered_or_0 a)
           go true t =

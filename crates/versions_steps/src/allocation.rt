@@ -19,5 +19,6 @@ pub fn allocate(state: &[u8], memory: &[u8], disk: &[u8], time: u32) -> Result<u
     arguments::box_questions::check(memory, disk, time)?;
     let reserve = versions_state::reserve(state);
     let taken = versions_state::taken(state);
-    versions_search::two(memory, disk, time, reserve, taken).ok_or(Refusal::TooFewFree)
+    let found = versions_search::two(memory, disk, time, reserve, taken);
+    found.ok().ok_or(Refusal::TooFewFree)
 }

@@ -1,7 +1,6 @@
 -- The old memory in two pieces, and zeros between them. Assumes nothing.
-use Rattle.std.proofs.Common.{ap, sym, arith, length, ◌-◌, ◌∙◌}
+use Rattle.std.proofs.Common.{ap, sym, arith, ◌-◌, ◌∙◌}
 use Rattle.octets.specs.Part.{part, replaced}
-use Rattle.octets.proofs.RepeatedLaw.{repeated_length}
 use Rattle.octets.proofs.PartLaw.{part_rest}
 use Rattle.lockpage.specs.Geometry.{base, present}
 use Rattle.lockpage.proofs.GeometryLaw.{base_proper}
@@ -9,14 +8,6 @@ use Rattle.memory.specs.Layout.{time_start, memory_size}
 use Rattle.migration_machine.proofs.Theorems.{present_wider}
 use Rattle.migration.proofs.LayoutLaw.{laid_out}
 use Rattle.migration.proofs.lay_out.Goals as goal
-
-pub store_bytes-requires : goal.store_bytes-requires
-store_bytes-requires c =
-    omega (arith, c.split_at.ensures.front_len, ap length c.requires.new_zeros, repeated_length (memory_size present) 0)
-
-pub store_bytes-requires-2 : goal.store_bytes-requires-2
-store_bytes-requires-2 c =
-    omega (arith, c.split_at.ensures.back_len, c.requires.old_size, c.store_bytes.auto.s, ap length c.requires.new_zeros, repeated_length (memory_size present) 0)
 
 pub returns : goal.returns
 unfolding part
