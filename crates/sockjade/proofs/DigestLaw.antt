@@ -19,3 +19,5 @@ pub digested : (input out filled : List ℕ) → length input ≤ longest_input 
     → digest_outcome 0 filled ≡ digest_call input out
 unfolding digest_call fits
 digested input out filled h k e = rw (digest_call, fits, le-leb (length input) longest_input h, eq-eqb (length out) digest_size k) (ap (digest_outcome 0) e)
+
+pub ruleset digest_ends = (refused_input, refused_out, digested)

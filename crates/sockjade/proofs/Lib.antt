@@ -1,3 +1,2 @@
 -- The laws that proofs cite.
 pub mod DigestLaw
-mod HalvesLaw
