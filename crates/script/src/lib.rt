@@ -29,12 +29,7 @@ pub fn begin(b: &mut ScriptBox) -> Reader
 // Reads the next piece of the script: what it prints is put at the start of out. Where out has not room for a line at each byte,
 // nothing is read.
 #[tactic(auto, using(script_printout::proofs::FeedLaw::feeding_none))]
-pub fn feed(
-    reader: Reader,
-    b: &mut ScriptBox,
-    piece: &[u8],
-    out: &mut [u8],
-) -> Option<Progress>
+pub fn feed(reader: Reader, b: &mut ScriptBox, piece: &[u8], out: &mut [u8]) -> Option<Progress>
     ensures { (fed_of reader result (box_in b.new) out.new
         ≡ R.fed reader (box_in b.old) piece.now out.old)
         × IfSome result (λ p. p.end ≤ length out.old) }
@@ -51,11 +46,7 @@ pub fn feed(
 
 // The end of the script: its last line, where that lacks its newline. Where out has not room for a line, nothing is read.
 #[tactic(auto, unfolding(script_printout::specs::Reader::finished, script_printout::specs::Reader::placed), using(octets::proofs::ReplacedLaw::replaced_none))]
-pub fn finish(
-    reader: Reader,
-    b: &mut ScriptBox,
-    out: &mut [u8],
-) -> Option<Progress>
+pub fn finish(reader: Reader, b: &mut ScriptBox, out: &mut [u8]) -> Option<Progress>
     ensures { (fed_of reader result (box_in b.new) out.new
         ≡ R.finished reader (box_in b.old) out.old)
         × IfSome result (λ p. p.end ≤ length out.old) }

@@ -1,14 +1,14 @@
 -- A line's command as the code runs it: the answer's buffer and the data are runs of one byte, and what is shown is by the kind and the
 -- number answered. Assumes nothing.
-use mathlib.Core.Path.{◌≡◌, ap, ap₂, sym, ◌∙◌}
+use mathlib.Core.Path.{◌≡◌, refl, ap, ap₂, sym, ◌∙◌}
 use mathlib.Core.Bool.{Bool, true, false, ◌&&◌, false≢true, true≢false}
-use mathlib.Core.List.{List, []}
-use Prim.Native.Nat.{ℕ, ◌≤◌, ◌%◌}
+use mathlib.Core.List.{List, [], ◌∷◌}
+use Prim.Native.Nat.{ℕ, zero, suc, ◌≤◌, ◌%◌}
 use native.Mathlib.Omega.{arith}
 use borrow.Author.Tests.{eq-eqb, ne_eqb}
 use lib.Dec.{eqb}
 use lib.IntN.{ℤ, pos}
-use lib.ListN.{length, take, replicate}
+use lib.ListN.{length, get_or, take, replicate}
 use Rattle.std.specs.Prelude.{Result, Ok, Err, is_err}
 use Rattle.octets.specs.Part.{part, repeated}
 use Rattle.octets.specs.Number.{number_at}
@@ -29,6 +29,7 @@ use Rattle.machine.specs.Question.{content_length, proof_length, refusal}
 use Rattle.machine.specs.Effect.{state_place}
 use Rattle.machine.specs.Step.{step}
 use Rattle.machine.proofs.CaseLaw.{same_or_not}
+use Rattle.machine.proofs.KindLaw.{entry_kind}
 use Rattle.machine.proofs.RefusalLaw.{some_number}
 use Rattle.machine.proofs.StepLaw.{refused_unaltered}
 use Rattle.machine.proofs.BytesLaw.{answer_length}
@@ -70,6 +71,42 @@ module _ (kind n : ℕ) (b : ScriptBox) (a : List ℕ) (o : Outcome) (e : outcom
 pub numbered : (r : Result Unit Refusal) (n : ℕ) (m disk a : List ℕ) (o : Outcome) → outcome_of (number_of r) m disk a ≡ o → n ≡ number_of r
     → outcome_of n m disk a ≡ o
 numbered r n m disk a o e en = ap (λ (x : ℕ). outcome_of x m disk a) en ∙ e
+
+-- kind 2 alone is an entry
+is_entry : Kind → Bool
+is_entry k = elim k [
+  | Read ↦ false
+  | Entry ↦ true
+  | Page ↦ false
+  | Change u ↦ false
+  | Sync ↦ false
+  | Restart ↦ false
+  | NewSalt ↦ false
+  | Identify ↦ false
+  | Unknown ↦ false
+]
+
+NoEntry : List Kind → Type 0
+NoEntry [] = Unit
+NoEntry (k ∷ ks) = (is_entry k ≡ false) × NoEntry ks
+
+no_entry : (ks : List Kind) (i : ℕ) → NoEntry ks → is_entry (get_or ks i Unknown) ≡ false
+unfolding NoEntry is_entry
+no_entry [] i h = refl
+no_entry (k ∷ ks) zero h = h.0
+no_entry (k ∷ ks) (suc i) h = no_entry ks i h.1
+
+pub entry_number : (n value : ℕ) (k : Kind) → k ≡ kind_numbered n value → k ≡ Entry → n ≡ 2
+unfolding kind_numbered NoEntry is_entry
+entry_number zero value k e h = absurd (false≢true (ap is_entry (sym e ∙ h)))
+entry_number (suc zero) value k e h = absurd (false≢true (ap is_entry (sym e ∙ h)))
+entry_number (suc (suc zero)) value k e h = refl
+entry_number (suc (suc (suc i))) value k e h =
+    let others = no_entry (Page ∷ Change (Write value) ∷ Change Unfreeze ∷ Change (Increment value) ∷ Sync ∷ Restart ∷ NewSalt ∷ Identify ∷ []) i (refl, (refl, (refl, (refl, (refl, (refl, (refl, (refl, tt)))))))) in
+    absurd (false≢true (sym others ∙ ap is_entry (sym e ∙ h)))
+
+pub other_number : (n value : ℕ) (k : Kind) → k ≡ kind_numbered n value → (k ≡ Entry → ⊥) → n ≡ 2 → ⊥
+other_number n value k e other two = other (e ∙ entry_kind n value two)
 
 pub refused_number : (r : Result Unit Refusal) (n : ℕ) → n ≡ number_of r → is_err r ≡ true → n ≡ 0 → ⊥
 refused_number (Ok u) n e t z = absurd (false≢true t)

@@ -16,13 +16,12 @@ use addressing::{BLOCK_SIZE, GROUP_SIZE};
 use arguments::kinds;
 use lockpage::ENTRY_SIZE;
 use lockpage::states::TIME_LEFT_SIZE;
+use machine::Kind;
 use memory::layout::MEMORY_SIZE;
 use script_lines::Values;
 use tags::ANSWER_SIZE;
 
-// The kinds that a script knows by number: a command's kind is a number, as C gives it.
-const ENTRY_KIND: u32 = 2;
-
+// The kind that gets a page: a command's kind is a number, as C gives it.
 const PAGE_KIND: u32 = 3;
 
 // What is printed of an answer: its number, and the state and time left of an entry.
@@ -71,7 +70,8 @@ impl ScriptBox {
             &mut answer,
         );
         let number = machine::number(answered);
-        if v.kind != ENTRY_KIND || answered.is_err() {
+        let k = kinds::kind_numbered(v.kind, v.value);
+        if !matches!(k, Kind::Entry) || answered.is_err() {
             return Shown {
                 number,
                 state: 0,
@@ -93,7 +93,17 @@ impl ScriptBox {
             × (page.new ≡ (page_got (box_in self.old)).answer) }
     {
         let time = memory::last_time(&self.memory);
-        let _ = controller::command(&mut self.memory, &mut self.disk, PAGE_KIND, 0, time, 0, b"", b"", page);
+        let _ = controller::command(
+            &mut self.memory,
+            &mut self.disk,
+            PAGE_KIND,
+            0,
+            time,
+            0,
+            b"",
+            b"",
+            page,
+        );
     }
 
     // Runs a line's command: a write's data and a new salt are of value mod 256, and kinds 4 to 6 bring the page that it gets first.

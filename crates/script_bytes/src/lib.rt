@@ -9,8 +9,7 @@ ghost use Rattle.script_answers.specs.Answer.{box_in, most_printed};
 ghost use Rattle.script_printout.specs.Reader.{next_number, reader_behind, stopped, header_end, header_byte, line_end, body_byte, byte_read, body_end, input_end};
 ghost use Rattle.script_printout.specs.Reader.{OnEveryBox, placed_of, placed};
 
-use script_answers::ScriptBox;
-use script_answers::printing;
+use script_answers::{ScriptBox, printing};
 use script_lines::{Line, NEWLINE};
 use script_printout::{Progress, Reader, Stage};
 
@@ -85,13 +84,7 @@ fn read_header(number: u64, k: usize, byte: u8, out: &mut [u8], at: usize) -> Pr
 
 // The end of a line of values: its command is run, and the answer printed.
 #[tactic(auto, unfolding(script_printout::specs::Reader::line_end, script_printout::specs::Reader::placed))]
-fn end_line(
-    number: u64,
-    line: Line,
-    b: &mut ScriptBox,
-    out: &mut [u8],
-    at: usize,
-) -> Progress
+fn end_line(number: u64, line: Line, b: &mut ScriptBox, out: &mut [u8], at: usize) -> Progress
     requires { at + most_printed ≤ length out.old }
     ensures { (placed_of result (box_in b.new) out.new
         ≡ placed out.old at (line_end number line (box_in b.old)))
@@ -139,13 +132,7 @@ fn read_body(
 
 // One byte: what it prints goes into out from place at on.
 #[tactic(auto, using(octets::proofs::ReplacedLaw::replaced_none), unfolding(script_printout::specs::Reader::byte_read, script_printout::specs::Reader::placed))]
-pub fn read_byte(
-    reader: Reader,
-    b: &mut ScriptBox,
-    byte: u8,
-    out: &mut [u8],
-    at: usize,
-) -> Progress
+pub fn read_byte(reader: Reader, b: &mut ScriptBox, byte: u8, out: &mut [u8], at: usize) -> Progress
     requires { at + most_printed ≤ length out.old }
     ensures { (placed_of result (box_in b.new) out.new
         ≡ placed out.old at (byte_read reader (box_in b.old) byte))
@@ -161,12 +148,7 @@ pub fn read_byte(
 
 // The end of the input, where a line of values is being read.
 #[tactic(auto, using(octets::proofs::ReplacedLaw::replaced_none), unfolding(script_printout::specs::Reader::body_end, script_printout::specs::Reader::placed))]
-fn end_body(
-    reader: Reader,
-    line: Line,
-    b: &mut ScriptBox,
-    out: &mut [u8],
-) -> Progress
+fn end_body(reader: Reader, line: Line, b: &mut ScriptBox, out: &mut [u8]) -> Progress
     requires { most_printed ≤ length out.old }
     ensures { (placed_of result (box_in b.new) out.new
         ≡ placed out.old 0 (body_end reader line (box_in b.old)))
@@ -180,11 +162,7 @@ fn end_body(
 
 // The end of the input ends the last line, if a byte of it is read.
 #[tactic(auto, using(octets::proofs::ReplacedLaw::replaced_none), unfolding(script_printout::specs::Reader::input_end, script_printout::specs::Reader::placed))]
-pub fn end_input(
-    reader: Reader,
-    b: &mut ScriptBox,
-    out: &mut [u8],
-) -> Progress
+pub fn end_input(reader: Reader, b: &mut ScriptBox, out: &mut [u8]) -> Progress
     requires { most_printed ≤ length out.old }
     ensures { (placed_of result (box_in b.new) out.new
         ≡ placed out.old 0 (input_end reader (box_in b.old)))
