@@ -8,7 +8,7 @@ use native.Mathlib.Omega.{arith}
 use borrow.Author.Tests.{eq-eqb, ne_eqb}
 use lib.Dec.{eqb}
 use lib.IntN.{ℤ, pos}
-use lib.ListN.{length, get_or, take, replicate}
+use lib.ListN.{length, get_or, take, drop, replicate}
 use Rattle.std.specs.Prelude.{Result, Ok, Err, is_err}
 use Rattle.octets.specs.Part.{part, repeated}
 use Rattle.octets.specs.Number.{number_at}
@@ -22,7 +22,7 @@ use Rattle.lockpage.proofs.GeometryLaw.{present_proper as σ}
 use Rattle.memory.specs.Memory.{last_time}
 use Rattle.machine.specs.declared.Kind.{Kind}
 use Rattle.machine.specs.declared.Kind.TheVariants.{Read, Entry, Page, Change, Sync, Restart, NewSalt, Identify, Unknown}
-use Rattle.machine.specs.Command.{Box, Outcome, Command, command_of, outcome_of, kind_numbered, answer_size}
+use Rattle.machine.specs.Command.{Box, Outcome, Command, command_of, outcome_of, kinds, kind_numbered, answer_size}
 use Rattle.machine.specs.declared.Refusal.{Refusal}
 use Rattle.machine.specs.Refusal.{number_of}
 use Rattle.machine.specs.Question.{content_length, proof_length, refusal}
@@ -37,6 +37,44 @@ use Rattle.script_lines.specs.declared.Values.{Values}
 use Rattle.script_answers.specs.declared.Shown.{Shown}
 use Rattle.script_answers.specs.declared.ScriptBox.{ScriptBox}
 use Rattle.script_answers.specs.Answer.{Ran, box_in, buffer, page_got, ran, shown, ran_of, ran_with, ran_line}
+
+-- ---- kind 2 alone is an entry
+
+is_entry : Kind → Bool
+is_entry k = elim k [
+  | Read ↦ false
+  | Entry ↦ true
+  | Page ↦ false
+  | Change u ↦ false
+  | Sync ↦ false
+  | Restart ↦ false
+  | NewSalt ↦ false
+  | Identify ↦ false
+  | Unknown ↦ false
+]
+
+NoEntry : List Kind → Type 0
+NoEntry [] = Unit
+NoEntry (k ∷ ks) = (is_entry k ≡ false) × NoEntry ks
+
+no_entry : (ks : List Kind) (i : ℕ) → NoEntry ks → is_entry (get_or ks i Unknown) ≡ false
+unfolding NoEntry is_entry
+no_entry [] i h = refl
+no_entry (k ∷ ks) zero h = h.0
+no_entry (k ∷ ks) (suc i) h = no_entry ks i h.1
+
+pub entry_number : (n value : ℕ) (k : Kind) → k ≡ kind_numbered n value → k ≡ Entry → n ≡ 2
+unfolding kind_numbered NoEntry is_entry
+entry_number zero value k e h = absurd (false≢true (ap is_entry (sym e ∙ h)))
+entry_number (suc zero) value k e h = absurd (false≢true (ap is_entry (sym e ∙ h)))
+entry_number (suc (suc zero)) value k e h = refl
+entry_number (suc (suc (suc i))) value k e h =
+    let others =
+    no_entry (drop 3 (Unknown ∷ kinds value)) i (refl, (refl, (refl, (refl, (refl, (refl, (refl, (refl, tt)))))))) in
+    absurd (false≢true (sym others ∙ ap is_entry (sym e ∙ h)))
+
+pub other_number : (n value : ℕ) (k : Kind) → k ≡ kind_numbered n value → (k ≡ Entry → ⊥) → n ≡ 2 → ⊥
+other_number n value k e other two = other (e ∙ entry_kind n value two)
 
 -- ---- what is shown
 
@@ -71,42 +109,6 @@ module _ (kind n : ℕ) (b : ScriptBox) (a : List ℕ) (o : Outcome) (e : outcom
 pub numbered : (r : Result Unit Refusal) (n : ℕ) (m disk a : List ℕ) (o : Outcome) → outcome_of (number_of r) m disk a ≡ o → n ≡ number_of r
     → outcome_of n m disk a ≡ o
 numbered r n m disk a o e en = ap (λ (x : ℕ). outcome_of x m disk a) en ∙ e
-
--- kind 2 alone is an entry
-is_entry : Kind → Bool
-is_entry k = elim k [
-  | Read ↦ false
-  | Entry ↦ true
-  | Page ↦ false
-  | Change u ↦ false
-  | Sync ↦ false
-  | Restart ↦ false
-  | NewSalt ↦ false
-  | Identify ↦ false
-  | Unknown ↦ false
-]
-
-NoEntry : List Kind → Type 0
-NoEntry [] = Unit
-NoEntry (k ∷ ks) = (is_entry k ≡ false) × NoEntry ks
-
-no_entry : (ks : List Kind) (i : ℕ) → NoEntry ks → is_entry (get_or ks i Unknown) ≡ false
-unfolding NoEntry is_entry
-no_entry [] i h = refl
-no_entry (k ∷ ks) zero h = h.0
-no_entry (k ∷ ks) (suc i) h = no_entry ks i h.1
-
-pub entry_number : (n value : ℕ) (k : Kind) → k ≡ kind_numbered n value → k ≡ Entry → n ≡ 2
-unfolding kind_numbered NoEntry is_entry
-entry_number zero value k e h = absurd (false≢true (ap is_entry (sym e ∙ h)))
-entry_number (suc zero) value k e h = absurd (false≢true (ap is_entry (sym e ∙ h)))
-entry_number (suc (suc zero)) value k e h = refl
-entry_number (suc (suc (suc i))) value k e h =
-    let others = no_entry (Page ∷ Change (Write value) ∷ Change Unfreeze ∷ Change (Increment value) ∷ Sync ∷ Restart ∷ NewSalt ∷ Identify ∷ []) i (refl, (refl, (refl, (refl, (refl, (refl, (refl, (refl, tt)))))))) in
-    absurd (false≢true (sym others ∙ ap is_entry (sym e ∙ h)))
-
-pub other_number : (n value : ℕ) (k : Kind) → k ≡ kind_numbered n value → (k ≡ Entry → ⊥) → n ≡ 2 → ⊥
-other_number n value k e other two = other (e ∙ entry_kind n value two)
 
 pub refused_number : (r : Result Unit Refusal) (n : ℕ) → n ≡ number_of r → is_err r ≡ true → n ≡ 0 → ⊥
 refused_number (Ok u) n e t z = absurd (false≢true t)

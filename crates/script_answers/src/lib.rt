@@ -4,12 +4,12 @@
 pub mod printing;
 
 ghost use Rattle.std.specs.Prelude.{◌≡◌};
+ghost use Rattle.octets.specs.Part.{repeated};
 ghost use Rattle.lockpage.specs.Geometry.{present};
-ghost use Rattle.machine.specs.Command.{command_of};
-ghost use Rattle.machine.specs.Step.{step};
 ghost use Rattle.addressing.specs.Map.{disk_size};
 ghost use Rattle.memory.specs.Layout.{memory_size};
-ghost use Rattle.octets.specs.Part.{repeated};
+ghost use Rattle.machine.specs.Command.{box_of, command_of};
+ghost use Rattle.machine.specs.Step.{step};
 ghost use Rattle.script_answers.specs.Answer.{box_in, buffer, page_got, ran_of, ran_with, ran_line};
 
 use addressing::{BLOCK_SIZE, GROUP_SIZE};
@@ -32,7 +32,7 @@ pub struct Shown {
     pub left: i64,
 }
 
-// The box of a script, of one group. It is lent, and never copied: it has 33 kB.
+// The box of a script: one group. It has 34 kB, and is passed by reference.
 #[derive(Drop)]
 pub struct ScriptBox {
     pub memory: [u8; MEMORY_SIZE],
@@ -40,10 +40,10 @@ pub struct ScriptBox {
 }
 
 impl ScriptBox {
-    // All zeros: not yet formatted.
+    // All zeros, as memory and disk are before the formatting: script_printout's blank_box.
     #[tactic(auto, unfolding(octets::specs::Part::repeated, addressing::specs::Map::disk_size))]
     pub fn new() -> Self
-        ensures { (result.memory ≡ repeated (memory_size present) 0) × (result.disk ≡ repeated (disk_size present 1) 0) }
+        ensures { box_in result ≡ box_of (repeated (memory_size present) 0) (repeated (disk_size present 1) 0) }
     {
         ScriptBox {
             memory: [0; MEMORY_SIZE],
