@@ -9,5 +9,6 @@ pub fn zero_tail(answer: &mut [u8], from: usize)
     requires { (length answer.old ≡ answer_size present) × (from ≤ answer_size present) }
     ensures { answer.new ≡ replaced answer.old from (repeated (answer_size present - from) 0) }
 {
-    octets::fill(answer, from, tags::ANSWER_SIZE - from, 0);
+    let zeros = [0u8; tags::ANSWER_SIZE];
+    octets::store_bytes(answer, from, &zeros[from..]);
 }

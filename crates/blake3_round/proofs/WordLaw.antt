@@ -1,17 +1,15 @@
 -- Laws of words of 32 bits: a rotation is two shifts put together, and gives a word. Assumes nothing.
 use Rattle.std.proofs.Common.{◌≡◌, ℕ, ◌+◌, ◌-◌, ◌*◌, ◌/◌, ◌%◌, ◌^◌, ◌<◌, ap, ◌∙◌, subst, add-zero, add_comm, arith, shr_lt}
 use native.Mathlib.Nat.{mul-mod_left}
-use lib.Bits.{bit_or, bit_xor, or_shifted_r}
+use lib.Bits.{bit_or, or_shifted_r}
 use lib.Pow.{mod-pow-add, shl-shr}
-use Rattle.std.proofs.lemmas.Nat.{xor_lt}
-use Rattle.std.specs.Int.{w32, rotate_right}
 use Rattle.blake3_round.specs.Round as R
 
 -- x shifted up by k at j + k bits is the low j bits of x, k places up
 shl_low : (x j k : ℕ) → (x * 2 ^ k) % 2 ^ (j + k) ≡ (x % 2 ^ j) * 2 ^ k
 shl_low x j k = rw (mod-pow-add, shl-shr, mul-mod_left) (add-zero _)
 
-rotr_or : (x n : ℕ) → n < 32 → x < 2 ^ 32 → bit_or (x / 2 ^ n) ((x * 2 ^ (32 - n)) % 2 ^ 32) ≡ R.rotr x n
+pub rotr_or : (x n : ℕ) → n < 32 → x < 2 ^ 32 → bit_or (x / 2 ^ n) ((x * 2 ^ (32 - n)) % 2 ^ 32) ≡ R.rotr x n
 unfolding R.rotr
 rotr_or x n hn hx =
     let up : 32 ≡ n + (32 - n) = omega arith in
@@ -20,10 +18,3 @@ rotr_or x n hn hx =
     ap (λ (z : ℕ). (x * 2 ^ (32 - n)) % 2 ^ z) up ∙ shl_low x n (32 - n) in
     let high : x / 2 ^ n < 2 ^ (32 - n) = shr_lt (32 - n) n (subst (λ (z : ℕ). x < 2 ^ z) down hx) in
     ap (bit_or (x / 2 ^ n)) low ∙ or_shifted_r (x % 2 ^ n) (32 - n) (x / 2 ^ n) high ∙ add_comm _ _
-
--- std's rotation of one word against another
-pub turned_word : (r x y n : ℕ) → 0 < n → n < 32 → x < 2 ^ 32 → y < 2 ^ 32 → r ≡ rotate_right w32 (bit_xor x y) n → r ≡ R.rotr (bit_xor x y) n
-turned_word r x y n lo hi fx fy e =
-    let low : n % 32 ≡ n = omega arith in
-    let up : (32 - n) % 32 ≡ 32 - n = omega arith in
-    e ∙ rw (low, up) (rotr_or (bit_xor x y) n hi (xor_lt 32 x y fx fy))

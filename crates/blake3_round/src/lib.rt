@@ -2,7 +2,7 @@
 // half-round are mixed side by side, a row at a time. The contracts cite specs/Round.antt.
 #![tactic(auto)]
 
-ghost use Rattle.std.specs.Prelude.{◌≡◌, ◌<◌, bit_xor};
+ghost use Rattle.std.specs.Prelude.{◌≡◌, ◌<◌};
 ghost use Rattle.blake3_round.specs.Round as R;
 
 use std::array;
@@ -14,13 +14,13 @@ fn sum(x: [u32; 4], y: [u32; 4]) -> [u32; 4]
     array::from_fn(|i| x[i].wrapping_add(y[i]))
 }
 
-// A word against another, rotated right.
-#[tactic(auto, using(crate::proofs::WordLaw::turned_word))]
-fn turn_word(x: u32, y: u32, n: u32) -> u32
+// A word rotated right: by a helper of the program's own, as the papers have it.
+#[tactic(auto, using(crate::proofs::WordLaw::rotr_or))]
+fn rotr(x: u32, n: u32) -> u32
     requires { (0 < n) × (n < 32) }
-    ensures { result ≡ R.rotr (bit_xor x y) n }
+    ensures { result ≡ R.rotr x n }
 {
-    (x ^ y).rotate_right(n)
+    (x >> n) | (x << (32 - n))
 }
 
 #[tactic(auto, unfolding(crate::specs::Round::turned))]
@@ -28,7 +28,7 @@ fn turn(x: [u32; 4], y: [u32; 4], n: u32) -> [u32; 4]
     requires { (0 < n) × (n < 32) }
     ensures { result ≡ R.turned x y n }
 {
-    array::from_fn(|i| turn_word(x[i], y[i], n))
+    array::from_fn(|i| rotr(x[i] ^ y[i], n))
 }
 
 // The mixing function on the four columns at once.

@@ -1,5 +1,5 @@
 -- The groups named, answered one after the other. Assumes nothing.
-use mathlib.Core.Path.{◌≡◌, refl, ap, sym, ◌∙◌}
+use mathlib.Core.Path.{◌≡◌, ap, sym, ◌∙◌}
 use mathlib.Core.List.{List}
 use Prim.Native.Nat.{ℕ, ◌+◌, ◌*◌, ◌≤◌, ◌<◌}
 use native.Mathlib.Omega.{arith}
@@ -140,10 +140,6 @@ module _ {γ : Geometry} (σ : Proper γ) (s : Box) (blocks first next named : L
           page_size_is = lf;
           answer_size_is = g.size ∙ f.answer_size_is;
         }
-
-  pub filled_start : (now : ℕ) (page : List ℕ) → length page ≡ page_size γ → Filled γ s blocks named now page start 0 0
-  filled_start now page l =
-      record { counted = refl; shown = λ p h. absurd (omega arith); page_size_is = l; answer_size_is = ready.filling.answer_size_is }
 
   pub filled_end : (now : ℕ) (page answer : List ℕ) (pages k : ℕ) → Filled γ s blocks named now page answer pages k
       → length (take count named) ≤ k → answer ≡ shown_states γ s now (numbers blocks)

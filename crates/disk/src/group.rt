@@ -27,13 +27,15 @@ pub fn read_block(group: &[u8], place: usize, out: &mut [u8])
     out.copy_from_slice(lend_block(group, place));
 }
 
-// Stores the block at a place.
-#[tactic(auto, using(lockpage::proofs::GeometryLaw::present_proper, addressing::proofs::MapLaw::block_start_place), unfolding(crate::specs::Disk::with_block))]
+// Stores the block at a place: its part of the extent is lent on to be written.
+#[tactic(auto, using(lockpage::proofs::GeometryLaw::present_proper, addressing::proofs::MapLaw::block_start_place, octets::proofs::ReplacedLaw::replaced_lent), unfolding(crate::specs::Disk::with_block))]
 pub fn store_block(group: &mut [u8], place: usize, content: &[u8])
     requires { PlaceReady present group.old place content.now }
     ensures { group.new ≡ with_block present group.old place content.now }
 {
-    octets::store_bytes(group, addressing::block_start(place), content);
+    let from = addressing::block_start(place);
+    let to = from + addressing::BLOCK_SIZE;
+    group[from..to].copy_from_slice(content);
 }
 
 // Entry i of the page.

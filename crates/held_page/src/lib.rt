@@ -65,5 +65,5 @@ pub fn hold_none(memory: &mut [u8])
 {
     octets::store_u8(memory, layout::HELD_START, layout::NONE);
     octets::store_u8(memory, layout::UPDATE_COUNT_START, 0);
-    octets::fill(memory, layout::PAGE_START, lockpage::PAGE_SIZE, 0);
+    octets::store_bytes(memory, layout::PAGE_START, &[0u8; lockpage::PAGE_SIZE]);
 }

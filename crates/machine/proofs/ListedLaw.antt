@@ -6,7 +6,7 @@ use mathlib.Core.Logic.{∥∥₁_elim, ∥∥₁_map}
 use mathlib.Mathlib.Data.Bool.Basic.{and_intro, and_elim_left, and_elim_right, or_inl, or_inr, eq-false_of_not-eq-true}
 use mathlib.Core.List.{List, [], ◌∷◌, ◌++◌, map, flat_map, any, all, all-eq-true, any-eq-true}
 use mathlib.Core.List.{not-mem-nil, mem-cons_self, mem-cons_of_mem, eq-or-mem_of_mem-cons}
-use Prim.Native.Nat.{ℕ, zero, suc, ◌+◌, ◌-◌, ◌*◌, ◌≤◌, ◌<◌}
+use Prim.Native.Nat.{ℕ, zero, suc, ◌+◌, ◌*◌, ◌≤◌, ◌<◌}
 use native.Mathlib.Omega.{arith}
 use borrow.Author.Tests.{eqb-true}
 use lib.Dec.{eqb, lit<}
@@ -126,36 +126,6 @@ module _ {A : Type 0} (f : ℕ → A) where
     none_listed i (suc n) h =
         any_cons p (f i) (listed f (suc i) n)
         ∙ ap₂ ◌||◌ (h i (omega arith) (omega arith)) (none_listed (suc i) n (λ j a b. h j (omega arith) (omega arith)))
-
--- ---- whether all of n have a property, from place i on: looked at from the last to the first
-
-module _ (f : ℕ → ℕ) (p : ℕ → Bool) (n : ℕ) where
-  all_from : (i : ℕ) → i < n → all (listed f i (n - i)) p ≡ p (f i) && all (listed f (suc i) (n - suc i)) p
-  unfolding listed
-  all_from i h =
-      let more : n - i ≡ suc (n - suc i) = omega arith in
-      ap (λ (k : ℕ). all (listed f i k) p) more ∙ all_cons p (f i) (listed f (suc i) (n - suc i))
-
-  -- before the first look, from place k behind the last
-  pub all_counted : (k : ℕ) → k ≡ n → true ≡ all (listed f k (n - k)) p
-  unfolding listed
-  all_counted k e =
-      let nothing : 0 ≡ n - k = omega arith in
-      sym (all_none p) ∙ ap (λ (j : ℕ). all (listed f k j) p) nothing
-
-  -- i is looked at after k
-  pub all_yes : (i k : ℕ) → k ≡ suc i → i < n → (r : Bool) → r ≡ all (listed f k (n - k)) p → p (f i) ≡ true → r ≡ all (listed f i (n - i)) p
-  all_yes i k next h r e y =
-      e
-      ∙ ap (λ (j : ℕ). all (listed f j (n - j)) p) next
-      ∙ sym (all_from i h ∙ ap (λ (b : Bool). b && all (listed f (suc i) (n - suc i)) p) y)
-
-  pub all_no : (i : ℕ) → i < n → p (f i) ≡ false → false ≡ all (listed f i (n - i)) p
-  all_no i h y = sym (all_from i h ∙ ap (λ (b : Bool). b && all (listed f (suc i) (n - suc i)) p) y)
-
-  -- after the last look
-  pub all_counted_down : (i : ℕ) → i ≡ 0 → (r : Bool) → r ≡ all (listed f i (n - i)) p → r ≡ all (listed f 0 n) p
-  all_counted_down i z r e = e ∙ ap (λ (j : ℕ). all (listed f j (n - j)) p) z ∙ ap (λ (j : ℕ). all (listed f 0 j) p) (omega arith)
 
 -- ---- the distinct ones
 

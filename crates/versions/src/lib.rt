@@ -3,12 +3,13 @@
 // every byte of state, memory and disk by the definitions of versions_bytes.
 #![tactic(auto)]
 
-ghost use Rattle.std.specs.Prelude.{◌≡◌};
+ghost use Rattle.std.specs.Prelude.{◌≡◌, IfOk};
 ghost use Rattle.lockpage.specs.Geometry.{present};
 ghost use Rattle.memory.specs.Memory.{groups};
 ghost use Rattle.machine.specs.Refusal.{number_of, answered_or_0};
 ghost use Rattle.machine.specs.Call.{box_at};
 ghost use Rattle.versions_machine.specs.Allocation.{first_block, whole_box};
+ghost use Rattle.versions_state.specs.State.{versions_in};
 ghost use Rattle.versions_bytes.specs.Call.{located_of, block_or_0, called_at, started_at, start_bytes, lookup, put_bytes, flush_bytes};
 
 use machine::Refusal;
@@ -30,7 +31,8 @@ pub fn start(buffer: &mut [u8], lock: u32) -> Result<(), Refusal>
 
 // The block of a part's newest version, if it has one.
 pub fn block(state: &[u8], part: u32) -> Result<Option<u32>, Refusal>
-    ensures { located_of (number_of result) (block_or_0 result) ≡ lookup present state.now part }
+    ensures located { located_of (number_of result) (block_or_0 result) ≡ lookup present state.now part }
+    ensures newest { IfOk result (λ block. block ≡ (versions_in state.now).newest part) }
 {
     if part > versions_machine::LAST_PART {
         return Err(Refusal::PartOutOfRange);

@@ -2,7 +2,7 @@
 // definitions of versions_machine.
 #![tactic(auto)]
 
-ghost use Rattle.std.specs.Prelude.{◌≡◌, true, ◌≤◌, ◌<◌, length};
+ghost use Rattle.std.specs.Prelude.{◌≡◌, ◌≤◌, ◌<◌, length};
 ghost use mathlib.Core.List.{all};
 ghost use Rattle.lockpage.specs.Geometry.{present};
 ghost use Rattle.versions_machine.specs.Versions.{is_lock};
