@@ -3,23 +3,23 @@
 #![tactic(auto)]
 
 ghost use Rattle.std.specs.Prelude.{◌≡◌, ◌≤◌, length, IfSome};
-ghost use Rattle.machine.specs.Call.{box_at};
+ghost use Rattle.script_answers.specs.Answer.{box_in};
 ghost use Rattle.script_printout.specs.Printout.{script_box};
 ghost use Rattle.script_printout.specs.Reader.{begun, fed_of};
 ghost use Rattle.script_printout.specs.Reader as R;
 
-use addressing::GROUP_SIZE;
-use memory::layout::{MEMORY_SIZE, SALT_SIZE};
+use memory::layout::SALT_SIZE;
+use script_answers::ScriptBox;
 use script_answers::printing::MOST_PRINTED;
 use script_printout::{Progress, Reader, Stage};
 
 // Formats the box of a script, one group with a zero salt, and answers the reader of its first byte.
 #[tactic(auto, unfolding(script_printout::specs::Printout::script_box, octets::specs::Part::repeated))]
-pub fn begin(memory: &mut [u8; MEMORY_SIZE], disk: &mut [u8; GROUP_SIZE]) -> Reader
-    ensures { (result ≡ begun) × (box_at memory.new disk.new ≡ script_box (box_at memory.old disk.old)) }
+pub fn begin(b: &mut ScriptBox) -> Reader
+    ensures { (result ≡ begun) × (box_in b.new ≡ script_box (box_in b.old)) }
 {
     let salt = [0u8; SALT_SIZE];
-    let _ = formatter::format(memory, disk, 1, &salt);
+    let _ = formatter::format(&mut b.memory, &mut b.disk, 1, &salt);
     Reader {
         number: 1,
         stage: Stage::Header(0),
@@ -29,15 +29,9 @@ pub fn begin(memory: &mut [u8; MEMORY_SIZE], disk: &mut [u8; GROUP_SIZE]) -> Rea
 // Reads the next piece of the script: what it prints is put at the start of out. Where out has not room for a line at each byte,
 // nothing is read.
 #[tactic(auto, using(script_printout::proofs::FeedLaw::feeding_none))]
-pub fn feed(
-    reader: Reader,
-    memory: &mut [u8; MEMORY_SIZE],
-    disk: &mut [u8; GROUP_SIZE],
-    piece: &[u8],
-    out: &mut [u8],
-) -> Option<Progress>
-    ensures { (fed_of reader result (box_at memory.new disk.new) out.new
-        ≡ R.fed reader (box_at memory.old disk.old) piece.now out.old)
+pub fn feed(reader: Reader, b: &mut ScriptBox, piece: &[u8], out: &mut [u8]) -> Option<Progress>
+    ensures { (fed_of reader result (box_in b.new) out.new
+        ≡ R.fed reader (box_in b.old) piece.now out.old)
         × IfSome result (λ p. p.end ≤ length out.old) }
 {
     if out.len() / MOST_PRINTED < piece.len() {
@@ -45,25 +39,20 @@ pub fn feed(
     }
     let mut progress = Progress { reader, end: 0 };
     for &byte in piece {
-        progress = script_bytes::read_byte(progress.reader, memory, disk, byte, out, progress.end);
+        progress = script_bytes::read_byte(progress.reader, b, byte, out, progress.end);
     }
     Some(progress)
 }
 
 // The end of the script: its last line, where that lacks its newline. Where out has not room for a line, nothing is read.
 #[tactic(auto, unfolding(script_printout::specs::Reader::finished, script_printout::specs::Reader::placed), using(octets::proofs::ReplacedLaw::replaced_none))]
-pub fn finish(
-    reader: Reader,
-    memory: &mut [u8; MEMORY_SIZE],
-    disk: &mut [u8; GROUP_SIZE],
-    out: &mut [u8],
-) -> Option<Progress>
-    ensures { (fed_of reader result (box_at memory.new disk.new) out.new
-        ≡ R.finished reader (box_at memory.old disk.old) out.old)
+pub fn finish(reader: Reader, b: &mut ScriptBox, out: &mut [u8]) -> Option<Progress>
+    ensures { (fed_of reader result (box_in b.new) out.new
+        ≡ R.finished reader (box_in b.old) out.old)
         × IfSome result (λ p. p.end ≤ length out.old) }
 {
     if out.len() < MOST_PRINTED {
         return None;
     }
-    Some(script_bytes::end_input(reader, memory, disk, out))
+    Some(script_bytes::end_input(reader, b, out))
 }

@@ -17,6 +17,11 @@ use Rattle.decimal.specs.Decimal.{decimal, signed_decimal}
 use Rattle.script_lines.specs.declared.Values.{Values}
 use Rattle.script_lines.specs.Syntax.{space, newline}
 use Rattle.script_answers.specs.declared.Shown.{Shown}
+use Rattle.script_answers.specs.declared.ScriptBox.{ScriptBox}
+
+-- a script's box as the machine's
+abbrev pub box_in : ScriptBox → Box
+box_in b = box_of b.memory b.disk
 
 -- ---- the command
 
@@ -86,8 +91,8 @@ pub record Ran : Type 0 where
   pub box : Box
   pub shown : Shown
 
-abbrev pub ran_of : List ℕ → List ℕ → Shown → Ran
-ran_of memory disk s = record { box = box_of memory disk; shown = s }
+abbrev pub ran_of : ScriptBox → Shown → Ran
+ran_of b s = record { box = box_in b; shown = s }
 
 abbrev pub ran_with : ℕ → Outcome → Ran
 ran_with kind o = record { box = o.box; shown = shown kind o }

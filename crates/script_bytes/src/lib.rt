@@ -5,14 +5,11 @@
 mod texts;
 
 ghost use Rattle.std.specs.Prelude.{◌≡◌, ◌+◌, ◌≤◌, length};
-ghost use Rattle.machine.specs.Call.{box_at};
-ghost use Rattle.script_answers.specs.Answer.{most_printed};
+ghost use Rattle.script_answers.specs.Answer.{box_in, most_printed};
 ghost use Rattle.script_printout.specs.Reader.{next_number, reader_behind, stopped, header_end, header_byte, line_end, body_byte, byte_read, body_end, input_end};
 ghost use Rattle.script_printout.specs.Reader.{OnEveryBox, placed_of, placed};
 
-use addressing::GROUP_SIZE;
-use memory::layout::MEMORY_SIZE;
-use script_answers::printing;
+use script_answers::{ScriptBox, printing};
 use script_lines::{Line, NEWLINE};
 use script_printout::{Progress, Reader, Stage};
 
@@ -87,23 +84,16 @@ fn read_header(number: u64, k: usize, byte: u8, out: &mut [u8], at: usize) -> Pr
 
 // The end of a line of values: its command is run, and the answer printed.
 #[tactic(auto, unfolding(script_printout::specs::Reader::line_end, script_printout::specs::Reader::placed))]
-fn end_line(
-    number: u64,
-    line: Line,
-    memory: &mut [u8; MEMORY_SIZE],
-    disk: &mut [u8; GROUP_SIZE],
-    out: &mut [u8],
-    at: usize,
-) -> Progress
+fn end_line(number: u64, line: Line, b: &mut ScriptBox, out: &mut [u8], at: usize) -> Progress
     requires { at + most_printed ≤ length out.old }
-    ensures { (placed_of result (box_at memory.new disk.new) out.new
-        ≡ placed out.old at (line_end number line (box_at memory.old disk.old)))
+    ensures { (placed_of result (box_in b.new) out.new
+        ≡ placed out.old at (line_end number line (box_in b.old)))
         × (result.end ≤ at + most_printed) }
 {
     let Some(values) = script_lines::judge(line) else {
         return stop(number, out, at);
     };
-    let shown = script_answers::run(memory, disk, values);
+    let shown = b.run(values);
     Progress {
         reader: reader_behind(number),
         end: printing::put_line(out, at, values, shown),
@@ -115,19 +105,18 @@ fn end_line(
 fn read_body(
     number: u64,
     line: Line,
-    memory: &mut [u8; MEMORY_SIZE],
-    disk: &mut [u8; GROUP_SIZE],
+    b: &mut ScriptBox,
     byte: u8,
     out: &mut [u8],
     at: usize,
 ) -> Progress
     requires { at + most_printed ≤ length out.old }
-    ensures { (placed_of result (box_at memory.new disk.new) out.new
-        ≡ placed out.old at (body_byte number line (box_at memory.old disk.old) byte))
+    ensures { (placed_of result (box_in b.new) out.new
+        ≡ placed out.old at (body_byte number line (box_in b.old) byte))
         × (result.end ≤ at + most_printed) }
 {
     if byte == NEWLINE {
-        return end_line(number, line, memory, disk, out, at);
+        return end_line(number, line, b, out, at);
     }
     let Some(next) = script_lines::after_byte(line, byte) else {
         return stop(number, out, at);
@@ -143,64 +132,46 @@ fn read_body(
 
 // One byte: what it prints goes into out from place at on.
 #[tactic(auto, using(octets::proofs::ReplacedLaw::replaced_none), unfolding(script_printout::specs::Reader::byte_read, script_printout::specs::Reader::placed))]
-pub fn read_byte(
-    reader: Reader,
-    memory: &mut [u8; MEMORY_SIZE],
-    disk: &mut [u8; GROUP_SIZE],
-    byte: u8,
-    out: &mut [u8],
-    at: usize,
-) -> Progress
+pub fn read_byte(reader: Reader, b: &mut ScriptBox, byte: u8, out: &mut [u8], at: usize) -> Progress
     requires { at + most_printed ≤ length out.old }
-    ensures { (placed_of result (box_at memory.new disk.new) out.new
-        ≡ placed out.old at (byte_read reader (box_at memory.old disk.old) byte))
+    ensures { (placed_of result (box_in b.new) out.new
+        ≡ placed out.old at (byte_read reader (box_in b.old) byte))
         × (result.end ≤ at + most_printed) }
 {
     let number = reader.number;
     match reader.stage {
         Stage::Header(k) => read_header(number, k, byte, out, at),
-        Stage::Body(line) => read_body(number, line, memory, disk, byte, out, at),
+        Stage::Body(line) => read_body(number, line, b, byte, out, at),
         Stage::Ended => Progress { reader, end: at },
     }
 }
 
 // The end of the input, where a line of values is being read.
 #[tactic(auto, using(octets::proofs::ReplacedLaw::replaced_none), unfolding(script_printout::specs::Reader::body_end, script_printout::specs::Reader::placed))]
-fn end_body(
-    reader: Reader,
-    line: Line,
-    memory: &mut [u8; MEMORY_SIZE],
-    disk: &mut [u8; GROUP_SIZE],
-    out: &mut [u8],
-) -> Progress
+fn end_body(reader: Reader, line: Line, b: &mut ScriptBox, out: &mut [u8]) -> Progress
     requires { most_printed ≤ length out.old }
-    ensures { (placed_of result (box_at memory.new disk.new) out.new
-        ≡ placed out.old 0 (body_end reader line (box_at memory.old disk.old)))
+    ensures { (placed_of result (box_in b.new) out.new
+        ≡ placed out.old 0 (body_end reader line (box_in b.old)))
         × (result.end ≤ most_printed) }
 {
     if script_lines::is_blank(line) {
         return Progress { reader, end: 0 };
     }
-    end_line(reader.number, line, memory, disk, out, 0)
+    end_line(reader.number, line, b, out, 0)
 }
 
 // The end of the input ends the last line, if a byte of it is read.
 #[tactic(auto, using(octets::proofs::ReplacedLaw::replaced_none), unfolding(script_printout::specs::Reader::input_end, script_printout::specs::Reader::placed))]
-pub fn end_input(
-    reader: Reader,
-    memory: &mut [u8; MEMORY_SIZE],
-    disk: &mut [u8; GROUP_SIZE],
-    out: &mut [u8],
-) -> Progress
+pub fn end_input(reader: Reader, b: &mut ScriptBox, out: &mut [u8]) -> Progress
     requires { most_printed ≤ length out.old }
-    ensures { (placed_of result (box_at memory.new disk.new) out.new
-        ≡ placed out.old 0 (input_end reader (box_at memory.old disk.old)))
+    ensures { (placed_of result (box_in b.new) out.new
+        ≡ placed out.old 0 (input_end reader (box_in b.old)))
         × (result.end ≤ most_printed) }
 {
     let number = reader.number;
     match reader.stage {
         Stage::Header(k) => end_header(number, k, out, 0),
-        Stage::Body(line) => end_body(reader, line, memory, disk, out),
+        Stage::Body(line) => end_body(reader, line, b, out),
         Stage::Ended => Progress { reader, end: 0 },
     }
 }

@@ -6,12 +6,11 @@
 mod steps;
 
 ghost use Rattle.std.specs.Prelude.{◌≡◌};
-ghost use Rattle.machine.specs.Call.{box_at};
+ghost use Rattle.script_answers.specs.Answer.{box_in};
 ghost use Rattle.script_printout.specs.Reader.{fed_of};
 ghost use Rattle.script_io.specs.Turn.{stepped};
 
-use addressing::GROUP_SIZE;
-use memory::layout::MEMORY_SIZE;
+use script_answers::ScriptBox;
 use script_printout::{Progress, Reader};
 use std::io::Read;
 
@@ -43,16 +42,15 @@ fn read_piece<R: Read>(
     rt: &(impl Print + Eprint),
     input: &mut R,
     reader: Reader,
-    memory: &mut [u8; MEMORY_SIZE],
-    disk: &mut [u8; GROUP_SIZE],
+    b: &mut ScriptBox,
     piece: &mut [u8],
     out: &mut [u8],
 ) -> Turn
-    ensures { fed_of reader result.fed (box_at memory.new disk.new) out.new
-        ≡ stepped reader (box_at memory.old disk.old) result.got piece.new out.old }
+    ensures { fed_of reader result.fed (box_in b.new) out.new
+        ≡ stepped reader (box_in b.old) result.got piece.new out.old }
 {
     let got = input.read(piece).ok();
-    let fed = steps::step(reader, memory, disk, got, piece, out);
+    let fed = steps::step(reader, b, got, piece, out);
     let end = fed.map_or(0, |progress| progress.end);
     let turn = Turn {
         got,
@@ -68,14 +66,13 @@ fn read_piece<R: Read>(
 fn read_pieces<R: Read>(
     rt: &(impl Print + Eprint),
     input: &mut R,
-    memory: &mut [u8; MEMORY_SIZE],
-    disk: &mut [u8; GROUP_SIZE],
+    b: &mut ScriptBox,
     piece: &mut [u8],
     out: &mut [u8],
 ) {
-    let mut reader = script::begin(memory, disk);
+    let mut reader = script::begin(b);
     for _ in 0..u64::MAX {
-        let turn = read_piece(rt, input, reader, memory, disk, piece, out);
+        let turn = read_piece(rt, input, reader, b, piece, out);
         match turn.fed {
             Some(progress) if steps::goes_on(turn) => reader = progress.reader,
             _ => return,
@@ -85,9 +82,8 @@ fn read_pieces<R: Read>(
 
 // Reads a script to its end, or to its first bad line, and writes its printout.
 pub fn run<R: Read>(rt: &(impl Print + Eprint), input: &mut R) {
-    let mut memory = [0u8; MEMORY_SIZE];
-    let mut disk = [0u8; GROUP_SIZE];
+    let mut b = ScriptBox::new();
     let mut piece = [0u8; PIECE_SIZE];
     let mut out = io::large_buffer();
-    read_pieces(rt, input, &mut memory, &mut disk, &mut piece, &mut out);
+    read_pieces(rt, input, &mut b, &mut piece, &mut out);
 }

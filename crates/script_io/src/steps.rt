@@ -1,12 +1,11 @@
 // A turn apart from its reading and writing: the step on what the read answered, and whether another turn follows.
 ghost use Rattle.std.specs.Prelude.{◌≡◌, ◌≤◌, length, IfSome};
-ghost use Rattle.machine.specs.Call.{box_at};
+ghost use Rattle.script_answers.specs.Answer.{box_in};
 ghost use Rattle.script_printout.specs.Reader.{fed_of};
 ghost use Rattle.script_io.specs.Turn.{stepped, has_ended, goes_on};
 
 use crate::Turn;
-use addressing::GROUP_SIZE;
-use memory::layout::MEMORY_SIZE;
+use script_answers::ScriptBox;
 use script_printout::{Progress, Reader, Stage};
 
 // The step on what a read answered: got bytes stand at the start of piece; at 0 the script is at its end. A read that fails, none, is not
@@ -14,21 +13,20 @@ use script_printout::{Progress, Reader, Stage};
 #[tactic(auto, using(crate::proofs::TurnLaw::step_failed, crate::proofs::TurnLaw::step_end, crate::proofs::TurnLaw::step_bytes))]
 pub(crate) fn step(
     reader: Reader,
-    memory: &mut [u8; MEMORY_SIZE],
-    disk: &mut [u8; GROUP_SIZE],
+    b: &mut ScriptBox,
     got: Option<usize>,
     piece: &[u8],
     out: &mut [u8],
 ) -> Option<Progress>
-    ensures { (fed_of reader result (box_at memory.new disk.new) out.new
-        ≡ stepped reader (box_at memory.old disk.old) got piece.now out.old)
+    ensures { (fed_of reader result (box_in b.new) out.new
+        ≡ stepped reader (box_in b.old) got piece.now out.old)
         × IfSome result (λ p. p.end ≤ length out.old) }
 {
     let n = got?;
     if n == 0 {
-        return script::finish(reader, memory, disk, out);
+        return script::finish(reader, b, out);
     }
-    script::feed(reader, memory, disk, &piece[..n.min(piece.len())], out)
+    script::feed(reader, b, &piece[..n.min(piece.len())], out)
 }
 
 // Whether the run has ended by a bad line.
