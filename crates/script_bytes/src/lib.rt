@@ -6,8 +6,8 @@ mod texts;
 
 ghost use Rattle.std.specs.Prelude.{◌≡◌, ◌+◌, ◌≤◌, length};
 ghost use Rattle.script_answers.specs.Answer.{box_in, most_printed};
-ghost use Rattle.script_printout.specs.Reader.{next_number, reader_behind, stopped, header_end, header_byte, line_end, body_byte, byte_read, body_end, input_end};
-ghost use Rattle.script_printout.specs.Reader.{OnEveryBox, placed_of, placed};
+ghost use Rattle.script_printout.specs.Reader.{OnEveryBox, placed_of, placed, next_number, reader_behind, stopped, header_end, header_byte};
+ghost use Rattle.script_printout.specs.Reader.{line_end, body_byte, byte_read, body_end, input_end};
 
 use script_answers::{ScriptBox, printing};
 use script_lines::{Line, NEWLINE};
