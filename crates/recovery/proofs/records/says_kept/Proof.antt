@@ -10,4 +10,6 @@ returns-3 c = says_counting _ _ _ (omega arith) (cc)
 
 pub says_kept_spec : {M : Type 1} → statement M
 says_kept_spec =
-    tie.close (tie.spec (λ c. search rules) (λ c. search rules) (λ c. search rules) (λ c. says_late _ _ _ (omega arith)) (λ c κs. search rules) (λ c. says_frozen _ _ _ (omega arith) (cc)) returns-3)
+    tie.close
+    (tie.spec (λ c. search rules) (λ c. search rules) (λ c. search rules) (λ c. says_late _ _ _ (omega arith))
+    (λ c κs. search rules) (λ c. says_frozen _ _ _ (omega arith) (cc)) returns-3)
