@@ -18,21 +18,16 @@ use Rattle.lockpage.specs.Geometry.{present}
 use Rattle.lockpage.specs.Size.{block_size, entry_size}
 use Rattle.lockpage.specs.State.{time_left_size}
 use Rattle.lockpage.specs.declared.Update.TheVariants.{Write, Unfreeze, Increment}
-use Rattle.lockpage.proofs.GeometryLaw.{present_proper as σ}
-use Rattle.memory.specs.Memory.{last_time}
 use Rattle.machine.specs.declared.Kind.{Kind}
 use Rattle.machine.specs.declared.Kind.TheVariants.{Read, Entry, Page, Change, Sync, Restart, NewSalt, Identify, Unknown}
-use Rattle.machine.specs.Command.{Box, Outcome, Command, command_of, outcome_of, kinds, kind_numbered, answer_size}
+use Rattle.machine.specs.Command.{Box, Outcome, command_of, outcome_of, kinds, kind_numbered}
 use Rattle.machine.specs.declared.Refusal.{Refusal}
 use Rattle.machine.specs.Refusal.{number_of}
-use Rattle.machine.specs.Question.{content_length, proof_length, refusal}
+use Rattle.machine.specs.Question.{content_length, proof_length}
 use Rattle.machine.specs.Effect.{state_place}
 use Rattle.machine.specs.Step.{step}
-use Rattle.machine.proofs.CaseLaw.{same_or_not}
 use Rattle.machine.proofs.KindLaw.{entry_kind}
 use Rattle.machine.proofs.RefusalLaw.{some_number}
-use Rattle.machine.proofs.StepLaw.{refused_unaltered}
-use Rattle.machine.proofs.BytesLaw.{answer_length}
 use Rattle.script_lines.specs.declared.Values.{Values}
 use Rattle.script_answers.specs.declared.Shown.{Shown}
 use Rattle.script_answers.specs.declared.ScriptBox.{ScriptBox}
@@ -117,20 +112,6 @@ refused_number (Err r) n e t z = some_number r (sym e ∙ z)
 pub accepted_number : (r : Result Unit Refusal) (n : ℕ) → n ≡ number_of r → is_err r ≡ false → n ≡ 0
 accepted_number (Ok u) n e t = e
 accepted_number (Err r) n e t = absurd (true≢false t)
-
--- ---- the page
-
--- the out for it is filled or left as it was
-page_size_is : (s : Box) → answer_size present ≡ length (page_got s).answer
-unfolding page_got buffer
-page_size_is s =
-    let c : Command = command_of 3 0 (last_time present s.memory) 0 [] [] buffer in
-    sym
-    (same_or_not (refusal present s c) 0 (λ r. answer_length σ s c r)
-    (λ h. ap length (refused_unaltered σ s c h).answer ∙ repeated_length (answer_size present) 0))
-
-pub got_size : (s : Box) (page : List ℕ) → page ≡ (page_got s).answer → answer_size present ≡ length page
-got_size s page e = page_size_is s ∙ ap length (sym e)
 
 -- ---- what a kind brings
 
