@@ -17,8 +17,8 @@ use std::io::Read;
 // The buffer for what is printed, `io::large_buffer`, has space for a line at each byte of a piece.
 const PIECE_SIZE: usize = 512;
 
-// A turn: how many bytes the read got, if it did not fail; what the step on it left, if the buffer had room; and whether all that it
-// printed is written.
+// A turn: how many bytes the read got, if it did not fail; what the step on it left, if it did not and the buffer had room; and whether all
+// that it printed is written.
 #[derive(Clone, Copy, Debug, PartialEq, Eq)]
 pub struct Turn {
     pub got: Option<usize>,
