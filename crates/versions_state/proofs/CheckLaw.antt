@@ -7,6 +7,8 @@ use Rattle.std.specs.List.{list_all, range_with_len}
 use Rattle.std.proofs.lemmas.Option.{same_Some, none-some}
 use Prim.Native.Nat.{ℕ, zero, suc, ◌+◌, ◌*◌, ◌≤◌, ◌<◌}
 use native.Mathlib.Numerals.{add-one}
+use native.Mathlib.Omega.{arith}
+use Rattle.std.proofs.Math.Bool.{and_assoc, and-true}
 use borrow.Author.Tests.{le-leb, lt-leb}
 use lib.Dec.{eqb, leb, ltb}
 use Rattle.octets.specs.Number.{number_at}
@@ -97,6 +99,28 @@ records_listed state test from zero = all_none test
 records_listed state test from (suc n) =
     all_cons test (record_in state from) (records_in state (from + 1) n)
     ∙ ap (λ (b : Bool). test (record_in state from) && b) (records_listed state test (from + 1) n)
+
+-- those before n, one after the other
+module _ (test : ℕ → Bool) where
+  abbrev pub all_before : ℕ → Bool
+  all_before n = list_all test (range_with_len 0 n)
+
+  one_more : (a n k : ℕ) → a + n ≡ k → (list_all test (range_with_len a n) && test k) ≡ list_all test (range_with_len a (suc n))
+  one_more a zero k e =
+      let same : k ≡ a = omega arith in
+      ap test same ∙ sym (and-true (test a))
+  one_more a (suc n) k e =
+      and_assoc (test a) (list_all test (range_with_len (a + 1) n)) (test k)
+      ∙ ap (λ (b : Bool). test a && b) (one_more (a + 1) n k (omega arith))
+
+  pub none_before : true ≡ all_before 0
+  none_before = refl
+
+  pub one_before : (n : ℕ) (b r : Bool) → b ≡ all_before n → r ≡ test n → (b && r) ≡ all_before (n + 1)
+  one_before n b r eb er = ap₂ (λ (x y : Bool). x && y) eb er ∙ one_more 0 n n (omega arith) ∙ ap all_before (sym (add-one n))
+
+  pub all_looked : (i n : ℕ) (b : Bool) → b ≡ all_before i → i ≡ n → b ≡ all_before n
+  all_looked i n b e z = e ∙ ap all_before z
 
 module _ (state : List ℕ) (r : Bool) where
   pub newests_looked : r ≡ list_all (λ p. is_newest present (newest_number state p)) (range_with_len 0 parts) → r ≡ newests_fit present state

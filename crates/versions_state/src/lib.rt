@@ -74,12 +74,16 @@ fn newest_fits(state: &[u8], part: u32) -> bool
     newest(state, part).is_none_or(|block| block < layout::MOST_BLOCKS)
 }
 
-// Whether each part's newest block is one.
+// Whether each part's newest block is one. All are looked at, so that the loop has one way out: a compiler takes several at a time.
 fn newests_fit(state: &[u8]) -> bool
     requires { length state.now ≡ state_size present }
     ensures { result ≡ newests_fit present state.now }
 {
-    (0..layout::PARTS).all(|part| newest_fits(state, part))
+    let mut fit = true;
+    for part in 0..layout::PARTS {
+        fit &= newest_fits(state, part);
+    }
+    fit
 }
 
 // Whether record i can be one.
@@ -94,12 +98,16 @@ fn record_fits(state: &[u8], i: u32) -> bool
     part <= versions_machine::LAST_PART && block < layout::MOST_BLOCKS
 }
 
-// Whether the first n records can be some.
+// Whether the first n records can be some. All are looked at, as the parts are.
 fn records_fit(state: &[u8], n: u32) -> bool
     requires { (length state.now ≡ state_size present) × (n ≤ most_records present) }
     ensures { result ≡ all (records_in state.now 0 n) (is_record present) }
 {
-    (0..n).all(|i| record_fits(state, i))
+    let mut fit = true;
+    for i in 0..n {
+        fit &= record_fits(state, i);
+    }
+    fit
 }
 
 // Question 1 of the state: whether a start and calls can have left it, as far as its bytes tell.

@@ -1,14 +1,18 @@
--- `versions_state::records_fit` meets its contract: `all` answers for the records in their order. Assumes nothing.
-use Rattle.std.proofs.Common.{rules, tests, refl, arith}
-use Rattle.std.proofs.lemmas.Iterator.{YieldsList-from_range}
-use Rattle.std.proofs.lemmas.Iterator.Search.{all_from_yields_List}
+-- `versions_state::records_fit` meets its contract: each turn looks at one record more.
+use Rattle.std.proofs.Common.{Bool, List, ℕ, arith}
 use Rattle.lockpage.specs.Geometry.{present}
 use Rattle.versions_state.specs.State.{record_in, is_record}
-use Rattle.versions_state.proofs.CheckLaw.{records_looked}
+use Rattle.versions_state.proofs.CheckLaw.{none_before, one_before, all_looked, records_looked}
 use Rattle.versions_state.proofs.records_fit.Goals as goal
 
+abbrev fits : List ℕ → ℕ → Bool
+fits state i = is_record present (record_in state i)
+
+pub loop-i-init : goal.loop-i-init
+loop-i-init c = none_before (fits c.args.state.now)
+
+pub loop-i-preserved : goal.loop-i-preserved
+loop-i-preserved c = one_before (fits c.args.state.now) c.loop-i.i _ _ c.loop-i.invariant c.record_fits-fit.ensures
+
 pub returns : goal.returns
-returns c =
-    records_looked c.args.state.now _ c.args.n
-    (all_from_yields_List (λ i. is_record present (record_in c.args.state.now i)) _ _ _ c.all.ensures.ran
-    (YieldsList-from_range 0 c.args.n c.args.n refl (omega arith)) (λ x b q k. search (rules, tests)))
+returns c = records_looked c.args.state.now _ c.args.n (all_looked (fits c.args.state.now) _ c.args.n _ c.loop-i.invariant (omega arith))
