@@ -25,9 +25,12 @@ fn lay_out(old: &[u8], new: &mut [u8])
     requires { LayOutReady old.now new.old }
     ensures { new.new ≡ migrated base present.most_groups old.now }
 {
-    let (front, back) = old.split_at(OLD_TIME_START);
-    octets::store_bytes(new, 0, front);
-    octets::store_bytes(new, layout::TIME_START, back);
+    octets::store_bytes(new, 0, &old[0..OLD_TIME_START]);
+    octets::store_bytes(
+        new,
+        layout::TIME_START,
+        &old[OLD_TIME_START..OLD_MEMORY_SIZE],
+    );
 }
 
 // Migrates an old memory into the buffer; where it is refused, no byte is changed. The old memory is judged by the new one, which is
